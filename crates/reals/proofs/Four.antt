@@ -1,0 +1,47 @@
+-- Loops over the four fans: an array that is filled from the front, one store a turn, and a value that takes one step a turn. Assumes nothing.
+use mathlib.Core.Path.{_≡_, refl}
+use mathlib.Core.List.{List, [], _∷_}
+use Prim.Native.Nat.{ℕ, zero, suc, _+_, _≤_, _<_}
+use native.Mathlib.Numerals.{add-one}
+use native.Mathlib.Omega.{arith}
+use lib.ListN.{set}
+use Rattle.reals.specs.Four.{each4, fold4}
+
+module _ {A : Type 0} where
+  -- o with its first n elements set to f 0, f 1, ..
+  abbrev pub filled : (ℕ → A) → List A → ℕ → List A
+  filled f o zero = o
+  filled f o (suc n) = set (filled f o n) n (f n)
+
+  -- the invariant of a loop that fills
+  pub record Fill (f : ℕ → A) (o : List A) (n : ℕ) (out : List A) : Type 0 where
+    pub most : n ≤ 4
+    pub so : out ≡ filled f o n
+
+  pub start : (f : ℕ → A) (o : List A) → Fill f o 0 o
+  start f o = record { most = omega arith; so = refl }
+
+  pub more : {f : ℕ → A} {o : List A} {n : ℕ} {out : List A} {v : A} → Fill f o n out → n < 4 → v ≡ f n → Fill f o (n + 1) (set out n v)
+  more {f} {o} {n} {out} {v} h l e = record { most = omega arith; so = rw (add-one n, h .so, e) }
+
+  pub done : {f : ℕ → A} {z : A} {n : ℕ} {out : List A} → Fill f (z ∷ z ∷ z ∷ z ∷ []) n out → 4 ≤ n → out ≡ each4 f
+  done {f} {z} {n} {out} h l = let e : n ≡ 4 = omega arith in rw e at (h .so)
+
+  -- what z is after the steps f 0, f 1, .. of which there are n
+  abbrev pub stepped : (A → ℕ → A) → A → ℕ → A
+  stepped f z zero = z
+  stepped f z (suc n) = f (stepped f z n) n
+
+  -- the invariant of a loop that takes steps
+  pub record Steps (f : A → ℕ → A) (z : A) (n : ℕ) (y : A) : Type 0 where
+    pub most : n ≤ 4
+    pub so : y ≡ stepped f z n
+
+  pub begin : (f : A → ℕ → A) (z : A) → Steps f z 0 z
+  begin f z = record { most = omega arith; so = refl }
+
+  pub step : {f : A → ℕ → A} {z : A} {n : ℕ} {y v : A} → Steps f z n y → n < 4 → v ≡ f y n → Steps f z (n + 1) v
+  step {f} {z} {n} {y} {v} h l e = record { most = omega arith; so = rw (e, add-one n, h .so) }
+
+  pub ends : {f : A → ℕ → A} {z : A} {n : ℕ} {y : A} → Steps f z n y → 4 ≤ n → y ≡ fold4 f z
+  ends {f} {z} {n} {y} h l = let e : n ≡ 4 = omega arith in rw e at (h .so)

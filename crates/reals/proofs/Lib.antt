@@ -1,0 +1,7 @@
+-- The laws that the proofs cite: of tests, of the order of floats, of times, and of loops over four fans.
+pub mod Truth
+pub mod FloatOrder
+pub mod Round
+pub mod Times
+pub mod Four
+pub mod Constants

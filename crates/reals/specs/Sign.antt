@@ -1,0 +1,15 @@
+-- The sign of a float, read off its constructors.
+use mathlib.Core.Bool.{Bool, false}
+use lib.Ieee.{Float, nan, inf, fin}
+
+-- the sign bit (`f64::is_sign_negative`): set in -0.0 too. There is one NaN and it has no sign, so it is asked only of numbers.
+unfoldable pub isSignNegative : Float → Bool
+isSignNegative nan = false
+isSignNegative (inf s) = s
+isSignNegative (fin s m e) = s
+
+-- the absolute value (`f64::abs`, CDL.Reals.Abs): the same magnitude with the sign bit clear
+unfoldable pub abs : Float → Float
+abs nan = nan
+abs (inf s) = inf false
+abs (fin s m e) = fin false m e
