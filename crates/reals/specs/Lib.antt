@@ -6,3 +6,4 @@ pub mod Limits
 pub mod Line
 pub mod Switch
 pub mod Four
+pub mod Seen

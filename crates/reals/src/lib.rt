@@ -4,3 +4,4 @@ pub mod sign; // finite, the sign bit, the absolute value
 pub mod limits; // the two limiters
 pub mod line; // CDL.Reals.Line
 pub mod switch; // CDL.Reals.Switch, CDL.Conversions.BooleanToReal
+pub mod seen; // a time, never seen or seen at

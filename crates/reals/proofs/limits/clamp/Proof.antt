@@ -1,3 +1,4 @@
+-- `clamp` meets its contract: each callee's equation is folded into the definition. Assumes nothing.
 use Rattle.reals.specs.Limits.{clamp}
 use borrow.Author.Needs.{needs}
 use Rattle.reals.proofs.limits.clamp.Statement.{statement}

@@ -1,3 +1,4 @@
+-- `limit` meets its contract: each callee's equation is folded into the definition. Assumes nothing.
 use Rattle.reals.specs.Limits.{limit}
 use borrow.Author.Needs.{needs}
 use Rattle.reals.proofs.limits.limit.Statement.{statement}

@@ -1,3 +1,4 @@
+-- `buildings_line` meets its contract: each callee's equation is folded into the definition. Assumes nothing.
 use Rattle.reals.specs.Line.{buildingsLine}
 use borrow.Author.Needs.{needs}
 use Rattle.reals.proofs.line.buildings_line.Statement.{statement}
