@@ -6,10 +6,9 @@ use mathlib.Core.Path.{_≡_, refl, sym}
 use mathlib.Core.Logic.{inl, inr}
 use mathlib.Core.Bool.{Bool, true, false, not, _&&_, _||_, true≢false}
 use lib.Dec.{T, ltb, eqb, ltb→lt, lt→ltb, eqb→eq, eqb-refl, T-not, not-T}
-use borrow.Author.Tests.{not-true, not-false}
 use lib.Ieee.{Float, nan, inf, fin, up, down, below, level, lt, eq, le, ne, isNan}
 use lib.Ieee.Fits.{down-pos, and-i, and-l, and-r, eq→eqb}
-use Rattle.reals.proofs.Truth.{is-true, is-false, holds, or-l, or-r, either, same, opposite}
+use Rattle.reals.proofs.Truth.{is-true, is-false, holds, or-l, or-r, either, same, opposite, table1}
 
 -- ---- ±a < ±b and ±a ≤ ±b, as facts of natural numbers
 abbrev Below : Bool → ℕ → Bool → ℕ → Type 0
@@ -253,11 +252,7 @@ self-equal (inf false) = refl
 self-equal (fin true m e) = rw (is-true (eqb (m * up e * down e) (m * up e * down e)) (eqb-refl (m * up e * down e))) refl
 self-equal (fin false m e) = rw (is-true (eqb (m * up e * down e) (m * up e * down e)) (eqb-refl (m * up e * down e))) refl
 
--- what the test `x != x` tells
-pub differs : (x : Float) → ne x x ≡ true → isNan x ≡ true
+-- the test `x != x`
+pub differs : (x : Float) → ne x x ≡ isNan x
 unfolding ne
-differs x e = not-false (isNan x) (rw (self-equal x) at (not-true (eq x x) e))
-
-pub agrees : (x : Float) → ne x x ≡ false → isNan x ≡ false
-unfolding ne
-agrees x e = not-true (isNan x) (rw (self-equal x) at (not-false (eq x x) e))
+differs x = rw (self-equal x) (table1 (λ b. not (not b)) (λ b. b) tt (isNan x))

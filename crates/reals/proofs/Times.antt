@@ -15,6 +15,7 @@ use lib.Ieee.Scale.{finite}
 use Rattle.reals.specs.Constants.{plusZero}
 use Rattle.reals.specs.Order.{greater}
 use Rattle.reals.specs.Sign.{isSignNegative}
+use Rattle.reals.specs.Switch.{switch}
 use Rattle.reals.proofs.Truth.{is-true, is-false, or-l}
 use Rattle.reals.proofs.FloatOrder.{to-most, le-lt, not-lt→le, le→not-lt}
 use Rattle.reals.proofs.Round.{plain, round-plain, neg-round, neg-order, neg-below, under-finite, zero-is, plain-not-below, zero-rounds, coarse, in-units, round-itself}
@@ -28,7 +29,7 @@ minus x y = sub binary64 x y
 
 -- ---- a plain number is not cut at 0
 pub greater-plain : (x : Float) → T (plain x) → greater x plusZero ≡ x
-unfolding greater isNan
+unfolding greater isNan switch
 greater-plain nan h = absurd h
 greater-plain (inf s) h = rw (plain-not-below (inf s) h) refl
 greater-plain (fin s m e) h = rw (plain-not-below (fin s m e) h) refl

@@ -1,20 +1,19 @@
--- `lesser` meets its contract, by its two tests. Assumes nothing.
+-- `lesser` meets its contract: a NaN is what differs from itself. Assumes nothing.
 use Rattle.reals.specs.Order.{lesser}
-use Rattle.reals.proofs.FloatOrder.{differs, agrees}
+use borrow.Author.Needs.{needs}
+use Rattle.reals.proofs.FloatOrder.{differs}
 use Rattle.reals.proofs.order.lesser.Statement.{statement}
 use Rattle.reals.proofs.order.lesser.Tie as tie
 
+switch-requires : tie.Need-switch-requires
+switch-requires c κs = search needs
+
+switch-requires-2 : tie.Need-switch-requires-2
+switch-requires-2 c κs = search needs
+
 returns : tie.Need-returns
 unfolding lesser
-returns c = simp (differs _ (c .if1 .taken))
-
-returns-2 : tie.Need-returns-2
-unfolding lesser
-returns-2 c = simp (agrees _ (c .before .if1 .left), c .if2 .taken)
-
-returns-3 : tie.Need-returns-3
-unfolding lesser
-returns-3 c = simp (agrees _ (c .before .if1 .left), c .if2 .left)
+returns c = rw (c .switch2 .ensures, c .before .switch .ensures, differs _)
 
 pub lesser-spec : {M : Type 1} → statement M
-lesser-spec = tie.close (tie.spec returns returns-2 returns-3)
+lesser-spec = tie.close (tie.spec switch-requires switch-requires-2 returns)

@@ -1,0 +1,4 @@
+-- The words of document 01, 'The past, read without state'.
+pub mod Past
+pub mod Runs
+pub mod Turns
