@@ -11,6 +11,15 @@ plusZero = ofBits binary64 0
 abbrev pub one : Float
 one = ofBits binary64 4607182418800017408
 
+abbrev pub half : Float
+half = ofBits binary64 4602678819172646912
+
+abbrev pub nineTenths : Float
+nineTenths = ofBits binary64 4606281698874543309
+
+abbrev pub minusOne : Float
+minusOne = ofBits binary64 13830554455654793216
+
 -- a constant beside the decimal fraction that it stands for: numerator / denominator, below 0 where `negative`
 pub record Constant : Type 0 where
   pub value : Float
@@ -27,4 +36,7 @@ abbrev pub constants : List Constant
 constants =
     record { value = plusZero; negative = false; numerator = 0; denominator = 1 }
     ∷ record { value = one; negative = false; numerator = 1; denominator = 1 }
+    ∷ record { value = half; negative = false; numerator = 5; denominator = 10 }
+    ∷ record { value = nineTenths; negative = false; numerator = 9; denominator = 10 }
+    ∷ record { value = minusOne; negative = true; numerator = 1; denominator = 1 }
     ∷ []

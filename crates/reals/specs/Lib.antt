@@ -7,3 +7,6 @@ pub mod Line
 pub mod Switch
 pub mod Four
 pub mod Seen
+pub mod Threshold
+pub mod Hysteresis
+pub mod Pid
