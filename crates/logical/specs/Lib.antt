@@ -1,0 +1,12 @@
+-- The definitions of `logical`, one module for each of src/.
+pub mod Switch
+pub mod Edge
+pub mod Latch
+pub mod Pre
+pub mod Timer
+pub mod ElapsedTimer
+pub mod HeldTimer
+pub mod PresentTimer
+pub mod TrueFalseHold
+pub mod TrueDelay
+pub mod TrueDelayOnInit
