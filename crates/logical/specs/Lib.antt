@@ -1,4 +1,4 @@
--- The definitions of `logical`, one module for each of src/.
+-- The definitions of `logical`, one module for each of src/, and a run over a list of rows.
 pub mod Switch
 pub mod Edge
 pub mod Latch
@@ -10,3 +10,4 @@ pub mod PresentTimer
 pub mod TrueFalseHold
 pub mod TrueDelay
 pub mod TrueDelayOnInit
+pub mod Run

@@ -28,8 +28,8 @@ impl TrueDelayState {
         ensures { λ r. ⌜ r ≡ trueDelayNextTimer self t u ⌝ }
     {
         let previous_time = self.previous_time;
-        let sum = self.timer + previous_time.gap(t);
-        switch(u & self.previous_input, sum, 0.0)
+        let gap = previous_time.gap(t);
+        switch(u & self.previous_input, self.timer + gap, 0.0)
     }
 
     pub fn output(self, t: f64, u: bool, delay: f64) -> bool

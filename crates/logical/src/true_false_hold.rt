@@ -38,7 +38,8 @@ impl TrueFalseHoldState {
     {
         let prev_t = self.prev_t;
         let first = prev_t.never();
-        let timer = self.timer + prev_t.gap(t);
+        let gap = prev_t.gap(t);
+        let timer = self.timer + gap;
         let duration = switch(self.held, self.true_hold_duration, self.false_hold_duration);
         let required = greater(duration, 0.0);
         let changes = first | ((u != self.held) & (timer >= required));

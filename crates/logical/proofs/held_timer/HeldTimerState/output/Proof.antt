@@ -18,12 +18,14 @@ logical-switch-requires-3 c κs = search needs
 
 returns : tie.Need-returns
 unfolding heldTimerOutput
-returns c = rw (
-  ← c .before .before .before .before .before .before .before .elapsed-time .ensures,
-  ← c .before .before .before .logical-switch .ensures,
-  ← c .before .before .logical-switch2 .ensures,
-  ← c .logical-switch3 .ensures,
-)
+returns c =
+    let kept = c .before .before .before in
+    rw (
+      ← kept .before .before .before .before .elapsed-time .ensures,
+      ← kept .logical-switch .ensures,
+      ← c .before .before .logical-switch2 .ensures,
+      ← c .logical-switch3 .ensures,
+    )
 
 pub output-spec : {M : Type 1} → statement M
 output-spec =

@@ -26,14 +26,17 @@ switch-requires-2 c κs = search needs
 
 returns : tie.Need-returns
 unfolding trueFalseHoldOutputAndTimer trueFalseHoldRequired
-returns c = rw (
-  ← c .before .before .before .before .before .before .before .never .ensures,
-  ← c .before .before .before .before .before .before .gap .ensures,
-  ← c .before .before .before .before .switch .ensures,
-  ← c .before .before .before .greater .ensures,
-  ← c .before .logical-switch .ensures,
-  ← c .switch2 .ensures,
-)
+returns c =
+    let required = c .before .before .before in
+    let timer = required .before .before .before in
+    rw (
+      ← timer .before .never .ensures,
+      ← timer .gap .ensures,
+      ← required .before .switch .ensures,
+      ← required .greater .ensures,
+      ← c .before .logical-switch .ensures,
+      ← c .switch2 .ensures,
+    )
 
 pub output-and-timer-spec : {M : Type 1} → statement M
 output-and-timer-spec =
