@@ -1,0 +1,2 @@
+-- The laws that tell blocks of like names apart.
+pub mod Differ

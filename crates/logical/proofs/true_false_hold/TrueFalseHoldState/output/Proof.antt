@@ -1,0 +1,15 @@
+-- `TrueFalseHoldState::output` meets its contract: the callee's equation is folded into the definition. Assumes nothing.
+use Rattle.logical.specs.TrueFalseHold.{trueFalseHoldOutput}
+use borrow.Author.Needs.{needs}
+use Rattle.logical.proofs.true_false_hold.TrueFalseHoldState.output.Statement.{statement}
+use Rattle.logical.proofs.true_false_hold.TrueFalseHoldState.output.Tie as tie
+
+output-and-timer-requires : tie.Need-output-and-timer-requires
+output-and-timer-requires c κs = search needs
+
+returns : tie.Need-returns
+unfolding trueFalseHoldOutput
+returns c = rw (c .output-and-timer .ensures)
+
+pub output-spec : {M : Type 1} → statement M
+output-spec = tie.close (tie.spec output-and-timer-requires returns)

@@ -1,0 +1,25 @@
+-- CDL.Logical.Timer, its output passed: `TimerState` of freeze_protection.rs. A pass is held until u falls, whatever the time does.
+use mathlib.Core.Bool.{Bool, true, false, not, _&&_}
+use lib.Ieee.{Float, le}
+use Rattle.reals.specs.declared.seen.Seen.the-variants.{Never}
+use Rattle.reals.specs.Constants.{plusZero}
+use Rattle.logical.specs.declared.held_timer.HeldTimerState.{HeldTimerState}
+use Rattle.logical.specs.declared.timer.TimerOutput.{TimerOutput}
+use Rattle.logical.specs.Switch.{logicalSwitch}
+use Rattle.logical.specs.Timer.{entryTime, elapsedTime}
+
+-- initial equation: pre(passed) = t <= 0, where the model's t is the threshold
+unfoldable pub heldTimerNew : Float → HeldTimerState
+heldTimerNew threshold = record { threshold = threshold; «entry_time» = Never; «prev_u» = false; passed = le threshold plusZero }
+
+-- when u rises, passed = threshold <= 0; elsewhen u and the elapsed time is the threshold or more, true; elsewhen u falls, false; else it is kept
+unfoldable pub heldTimerOutput : HeldTimerState → Float → Bool → TimerOutput
+heldTimerOutput s t u =
+    let rises = u && not (s .«prev_u») in
+    let reaches = u && le (s .threshold) (elapsedTime (s .«entry_time») (s .«prev_u») t u) in
+    let falls = not u && s .«prev_u» in
+    record { passed = logicalSwitch rises (le (s .threshold) plusZero) (logicalSwitch reaches true (logicalSwitch falls false (s .passed))) }
+
+-- the Rust's prev_t is left out: it is read only where prev_u is true, and is then Some in every state that a run reaches
+unfoldable pub heldTimerUpdate : HeldTimerState → Float → Bool → HeldTimerState
+heldTimerUpdate s t u = record { threshold = s .threshold; «entry_time» = entryTime (s .«entry_time») (s .«prev_u») t u; «prev_u» = u; passed = heldTimerOutput s t u .passed }

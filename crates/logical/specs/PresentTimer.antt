@@ -1,0 +1,18 @@
+-- The timer of relief_fan_group.rs, `TimerState`. It differs from CDL.Logical.Timer: a pass is not held, and the row on which u rises never passes.
+use mathlib.Core.Bool.{Bool, false, _&&_}
+use lib.Ieee.{Float, le}
+use Rattle.reals.specs.declared.seen.Seen.the-variants.{Never}
+use Rattle.logical.specs.declared.present_timer.PresentTimerState.{PresentTimerState}
+use Rattle.logical.specs.declared.timer.TimerOutput.{TimerOutput}
+use Rattle.logical.specs.Timer.{entryTime, elapsedTime}
+
+unfoldable pub presentTimerNew : Float → PresentTimerState
+presentTimerNew threshold = record { threshold = threshold; «entry_time» = Never; «prev_u» = false }
+
+-- u is true here and at the row before, and the elapsed time here is the threshold or more
+unfoldable pub presentTimerOutput : PresentTimerState → Float → Bool → TimerOutput
+presentTimerOutput s t u = record { passed = u && s .«prev_u» && le (s .threshold) (elapsedTime (s .«entry_time») (s .«prev_u») t u) }
+
+-- prev_t of the Rust is left out, as in the held timer
+unfoldable pub presentTimerUpdate : PresentTimerState → Float → Bool → PresentTimerState
+presentTimerUpdate s t u = record { threshold = s .threshold; «entry_time» = entryTime (s .«entry_time») (s .«prev_u») t u; «prev_u» = u }

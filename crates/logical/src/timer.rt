@@ -1,0 +1,29 @@
+// What the timers share: the time at which the input became true, the time since then, and the form of their answer.
+ghost use mathlib.Core.Path.{_≡_};
+ghost use Rattle.logical.specs.Timer.{entryTime, elapsedTime};
+use reals::seen::Seen;
+use reals::switch::switch;
+
+pub struct TimerOutput {
+    pub passed: bool,
+}
+
+// The time at which the input became true, at a row with input u at t; Never while it is false.
+pub fn entry_time(entry: Seen, prev_u: bool, t: f64, u: bool) -> Seen
+    ensures { λ r. ⌜ r ≡ entryTime entry «prev_u» t u ⌝ }
+{
+    if !u {
+        return Seen::Never;
+    }
+    if prev_u {
+        return entry;
+    }
+    Seen::At(t)
+}
+
+// The time since the input became true; 0 where it is false or has just risen.
+pub fn elapsed_time(entry: Seen, prev_u: bool, t: f64, u: bool) -> f64
+    ensures { λ r. ⌜ r ≡ elapsedTime entry «prev_u» t u ⌝ }
+{
+    switch(u & prev_u, entry.elapsed(t), 0.0)
+}
