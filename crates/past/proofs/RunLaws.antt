@@ -108,3 +108,7 @@ module _ {A : Type 0} (time : A → Float) (u : List A → Bool) (e : u [] ≡ f
       go : (h : List A) (a c d : Bool) → (u (x ∷ h) && not (u h) && (row0 (x ∷ h) || false) || u (x ∷ h) && (a || (u h && d || c))) ≡ (u (x ∷ h) && (row0 (x ∷ h) || (a || c || u h && d)))
       go [] a c d = rw e (table3 (λ w a c. w && true && true || w && (a || c)) (λ w a c. w && true) tt (u (x ∷ [])) a c)
       go (z ∷ h) a c d = table5 (λ w v a c d. w && not v && false || w && (a || (v && d || c))) (λ w v a c d. w && (a || c || v && d)) tt (u (x ∷ (z ∷ h))) (u (z ∷ h)) a c d
+
+  pub delayed-none : (n : Float) → delayed time n u [] ≡ false
+  unfolding delayed
+  delayed-none n = sinceWith-none u (rises u) (λ k. row0 (drop {A = A} k []) || reached time n k [])

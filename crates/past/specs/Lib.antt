@@ -2,3 +2,4 @@
 pub mod Past
 pub mod Runs
 pub mod Turns
+pub mod Stepped

@@ -14,15 +14,11 @@ use lib.Ieee.Order.{round-mono}
 use lib.Ieee.Scale.{finite}
 use Rattle.reals.specs.Constants.{plusZero}
 use Rattle.reals.specs.Order.{greater}
-use Rattle.reals.specs.Sign.{isSignNegative}
+use Rattle.reals.specs.Sign.{isSignNegative, isTime}
 use Rattle.reals.specs.Switch.{switch}
 use Rattle.reals.proofs.Truth.{is-true, is-false, or-l}
 use Rattle.reals.proofs.FloatOrder.{to-most, le-lt, not-lt→le, le→not-lt}
 use Rattle.reals.proofs.Round.{plain, round-plain, neg-round, neg-order, neg-below, under-finite, zero-is, plain-not-below, zero-rounds, coarse, in-units, round-itself}
-
--- finite, with the sign bit clear
-abbrev pub isTime : Float → Bool
-isTime x = finite x && not (isSignNegative x)
 
 abbrev minus : Float → Float → Float
 minus x y = sub binary64 x y

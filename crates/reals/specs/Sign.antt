@@ -1,6 +1,7 @@
 -- The sign of a float, read off its constructors.
-use mathlib.Core.Bool.{Bool, false}
+use mathlib.Core.Bool.{Bool, false, not, _&&_}
 use lib.Ieee.{Float, nan, inf, fin}
+use lib.Ieee.Scale.{finite}
 
 -- the sign bit (`f64::is_sign_negative`): set in -0.0 too. There is one NaN and it has no sign, so it is asked only of numbers.
 unfoldable pub isSignNegative : Float → Bool
@@ -13,3 +14,7 @@ unfoldable pub abs : Float → Float
 abs nan = nan
 abs (inf s) = inf false
 abs (fin s m e) = fin false m e
+
+-- what refusals 1 and 2 of document 01 leave of a time: finite, with the sign bit clear
+abbrev pub isTime : Float → Bool
+isTime x = finite x && not (isSignNegative x)
