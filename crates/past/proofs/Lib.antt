@@ -9,3 +9,5 @@ pub mod LatchReading
 pub mod TimerReading
 pub mod HoldReading
 pub mod DelayReading
+pub mod Whole
+pub mod Judged

@@ -3,3 +3,4 @@ pub mod Past
 pub mod Runs
 pub mod Turns
 pub mod Stepped
+pub mod Whole

@@ -1,0 +1,36 @@
+-- `Refusal::number` meets its contract, case by case. Assumes nothing.
+use borrow.Author.Needs.{needs}
+use Rattle.refusals.specs.Refusals.{refusalNumber}
+use Rattle.refusals.proofs.Refusal.number.Statement.{statement}
+use Rattle.refusals.proofs.Refusal.number.Tie as tie
+
+enum-told : tie.Need-enum-told
+enum-told c = search needs
+
+enum-told-2 : tie.Need-enum-told-2
+enum-told-2 c = search needs
+
+enum-told-3 : tie.Need-enum-told-3
+enum-told-3 c = search needs
+
+enum-told-4 : tie.Need-enum-told-4
+enum-told-4 c = search needs
+
+returns : tie.Need-returns
+unfolding refusalNumber
+returns c = simp (c .enum-told .given .1)
+
+returns-2 : tie.Need-returns-2
+unfolding refusalNumber
+returns-2 c = simp (c .enum-told2 .given .1)
+
+returns-3 : tie.Need-returns-3
+unfolding refusalNumber
+returns-3 c = simp (c .enum-told3 .given .1)
+
+returns-4 : tie.Need-returns-4
+unfolding refusalNumber
+returns-4 c = simp (c .enum-told4 .given .1)
+
+pub number-spec : {M : Type 1} → statement M
+number-spec = tie.close (tie.spec enum-told enum-told-2 enum-told-3 enum-told-4 returns returns-2 returns-3 returns-4)

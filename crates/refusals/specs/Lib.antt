@@ -1,0 +1,2 @@
+-- The refusals that all sequences share.
+pub mod Refusals

@@ -1,0 +1,30 @@
+-- Refusals (document 01, 'What each row refuses'). The first one that fits, in the order of their numbers, is given.
+use Prim.Native.Nat.{ℕ}
+use mathlib.Core.Bool.{Bool, true, not, _&&_, cond}
+use mathlib.Core.List.{List, [], _∷_}
+use lib.Ieee.{Float}
+use lib.Ieee.Scale.{finite}
+use Rattle.reals.specs.declared.seen.Seen.{Seen}
+use Rattle.reals.specs.Sign.{isSignNegative}
+use Rattle.reals.specs.Seen.{seenAbove}
+use Rattle.refusals.specs.declared.Refusal.{Refusal}
+use Rattle.refusals.specs.declared.Refusal.the-variants.{NotFinite, NegativeTime, FallingTime, WindowFull}
+use Rattle.refusals.specs.declared.Verdict.{Verdict}
+use Rattle.refusals.specs.declared.Verdict.the-variants.{Accepted, Refused}
+
+-- the paper's number of each refusal
+unfoldable pub refusalNumber : Refusal → ℕ
+refusalNumber NotFinite = 1
+refusalNumber NegativeTime = 2
+refusalNumber FallingTime = 3
+refusalNumber WindowFull = 4
+
+-- every number of a list is finite
+abbrev pub allFinite : List Float → Bool
+allFinite [] = true
+allFinite (x ∷ rest) = finite x && allFinite rest
+
+-- 1 if a number is not finite; 2 if the time's sign bit is set, so −0.0 too; 3 if the time is below the last accepted time. Equal times are taken.
+unfoldable pub judge : Bool → Float → Seen → Verdict
+judge allAreFinite time last =
+    cond (not allAreFinite) (Refused NotFinite) (cond (isSignNegative time) (Refused NegativeTime) (cond (seenAbove last time) (Refused FallingTime) Accepted))
