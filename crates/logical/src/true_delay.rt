@@ -32,6 +32,7 @@ impl TrueDelayState {
         switch(u & self.previous_input, self.timer + gap, 0.0)
     }
 
+    // The input is true, on the first row at once, later once its gaps reach the delay, and then on.
     pub fn output(self, t: f64, u: bool, delay: f64) -> bool
         ensures { λ r. ⌜ r ≡ trueDelayOutput self t u delay ⌝ }
     {
