@@ -1,0 +1,2 @@
+-- The fact over the constants' table, and the theorem.
+pub mod Nearest
