@@ -12,6 +12,8 @@ mod acceptance;
 mod columns;
 #[cfg(events)]
 mod events;
+#[path = "reference/input.rs"]
+mod input;
 #[path = "reference/lines.rs"]
 mod lines;
 /// The published sequences, as compare/extract takes them from docs/src.
@@ -29,6 +31,7 @@ mod sequences {
 use std::io::{self, Read, Write};
 use std::process::ExitCode;
 
+use input::Input;
 use sequences::economizer_controller::econ;
 use sequences::freeze_protection::freeze;
 use sequences::relief_fan_group::relief;
@@ -52,10 +55,8 @@ fn main() -> ExitCode {
 fn run(words: &[&str]) -> Result<(), String> {
     match words {
         [] => {
-            let mut text = Vec::new();
-            let read = io::stdin().lock().read_to_end(&mut text);
-            read.map_err(|error| format!("cannot read the rows: {error}"))?;
-            print(&answers(&text))
+            let played = answer(io::stdin().lock(), &mut io::stdout().lock());
+            played.map_err(|error| format!("cannot read or write: {error}"))
         }
         ["scenario", "freeze"] => print(&freeze::staged_scenario()),
         ["scenario", "fine_step"] => print(&freeze::fine_step_scenario()),
@@ -73,16 +74,30 @@ fn print(text: &[u8]) -> Result<(), String> {
     written.map_err(|error| format!("cannot write: {error}"))
 }
 
-/// The answer lines for a whole row file.
-fn answers(text: &[u8]) -> Vec<u8> {
-    let (kind, rows) = match text.iter().position(|&byte| byte == b'\n') {
-        Some(end) => (&text[..end], &text[end + 1..]),
-        None => (&text[..0], text),
-    };
-    match kind {
-        b"freeze" => freeze::answers(rows),
-        b"relief" => relief::answers(rows),
-        b"econ" => econ::answers(rows),
-        _ => lines::no_kind(),
+/// Answers a whole row file.
+fn answer(rows: impl Read, out: &mut impl Write) -> io::Result<()> {
+    let mut input = Input::new(rows);
+    // No kind has more letters than `freeze` and `relief`.
+    while input.text().len() < 7 && input.more()? {}
+    if take(&mut input, b"freeze\n") {
+        freeze::answer(&mut input, out)?;
+    } else if take(&mut input, b"relief\n") {
+        relief::answer(&mut input, out)?;
+    } else if take(&mut input, b"econ\n") {
+        econ::answer(&mut input, out)?;
+    } else {
+        let mut text = Vec::new();
+        columns::put_signed(&mut text, acceptance::NO_KIND.into());
+        text.push(b'\n');
+        out.write_all(&text)?;
     }
+    out.flush()
+}
+
+fn take(input: &mut Input<impl Read>, first_line: &[u8]) -> bool {
+    let is_there = input.text().starts_with(first_line);
+    if is_there {
+        input.consume(first_line.len());
+    }
+    is_there
 }

@@ -60,23 +60,41 @@ fn signed(column: &Column) -> Option<i64> {
     }
 }
 
-/// The number is 5 + 8 + 8 digits, with a space counted as the digit 0 that it would be.
+/// Three words of eight bytes hold the column, with three more spaces before it.
 fn unsigned(column: &Column) -> Option<u64> {
-    let at = start(column)?;
-    if column[at] == b'0' && at + 1 != WIDTH {
+    let word = |at: usize| u64::from_le_bytes(column[at..at + 8].try_into().unwrap());
+    let (high, middle, low) = (word(0) << 24 | 0x20_2020, word(5), word(13));
+    let spaces = if high != SPACES {
+        leading_spaces(high)
+    } else if middle != SPACES {
+        8 + leading_spaces(middle)
+    } else {
+        16 + leading_spaces(low)
+    };
+    if spaces == 24 || column[spaces - 3] == b'0' && spaces != 23 {
         return None;
     }
-    let mut digits = [b'0'; 24];
-    digits[3 + at..].copy_from_slice(&column[at..]);
-    let high = eight_digits(digits[0..8].try_into().ok()?)?;
-    let middle = eight_digits(digits[8..16].try_into().ok()?)?;
-    let low = eight_digits(digits[16..24].try_into().ok()?)?;
+    let high = eight_digits(zeros_for_spaces(high, spaces))?;
+    let middle = eight_digits(zeros_for_spaces(middle, spaces.saturating_sub(8)))?;
+    let low = eight_digits(zeros_for_spaces(low, spaces.saturating_sub(16)))?;
     high.checked_mul(10_000_000_000_000_000)?.checked_add(middle * 100_000_000 + low)
 }
 
+const SPACES: u64 = u64::from_le_bytes([b' '; 8]);
+
+/// How many of the eight bytes, up to the first that is none, are spaces.
+fn leading_spaces(word: u64) -> usize {
+    (word ^ SPACES).trailing_zeros() as usize / 8
+}
+
+/// The word with the digit 0 for its first `spaces` bytes, or for all of them.
+fn zeros_for_spaces(word: u64, spaces: usize) -> u64 {
+    let rest = u64::MAX.checked_shl(8 * spaces as u32).unwrap_or(0);
+    word | (0x1010_1010_1010_1010 & !rest)
+}
+
 /// Eight decimal digits, all at once: first the pairs, then the fours, then the eight.
-fn eight_digits(digits: [u8; 8]) -> Option<u64> {
-    let text = u64::from_le_bytes(digits);
+fn eight_digits(text: u64) -> Option<u64> {
     let high = text & 0xf0f0_f0f0_f0f0_f0f0;
     let carried = text.wrapping_add(0x0606_0606_0606_0606) & 0xf0f0_f0f0_f0f0_f0f0;
     if (high | carried >> 4) != 0x3333_3333_3333_3333 {

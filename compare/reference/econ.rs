@@ -1,8 +1,11 @@
 //! Rows and answers of the economizer, a module inside the published one.
 
+use std::io::{self, Read, Write};
+
 use super::{ControllerTrace, Row, economizer_controller_trace, input_trace, time_grid};
 use crate::acceptance::Before;
 use crate::columns::{Columns, put_flag, put_float, put_signed};
+use crate::input::Input;
 use crate::lines::{self, Kind};
 
 struct Econ;
@@ -11,7 +14,6 @@ impl Kind for Econ {
     type Row = Row;
     type Trace = ControllerTrace;
     const COLUMNS: usize = 8;
-    const ANSWER_COLUMNS: usize = 5;
 
     fn read(columns: &mut Columns) -> Option<Row> {
         Some(Row {
@@ -48,9 +50,9 @@ impl Kind for Econ {
     }
 }
 
-/// The answers to the lines after the first.
-pub fn answers(text: &[u8]) -> Vec<u8> {
-    lines::answers::<Econ>(text)
+/// Answers the lines after the first.
+pub fn answer(input: &mut Input<impl Read>, out: &mut impl Write) -> io::Result<()> {
+    lines::answer::<Econ>(input, out)
 }
 
 /// The 60 s scenario.

@@ -1,8 +1,11 @@
 //! Rows and answers of freeze protection, a module inside the published one.
 
+use std::io::{self, Read, Write};
+
 use super::{Inputs, Trace, expected_times, fine_step, freeze_protection_trace, input_row, input_rows};
 use crate::acceptance::Before;
 use crate::columns::{Columns, put_flag, put_float, put_signed};
+use crate::input::Input;
 use crate::lines::{self, Kind};
 
 struct Freeze;
@@ -11,7 +14,6 @@ impl Kind for Freeze {
     type Row = Inputs;
     type Trace = Trace;
     const COLUMNS: usize = 12;
-    const ANSWER_COLUMNS: usize = 12;
 
     fn read(columns: &mut Columns) -> Option<Inputs> {
         Some(Inputs {
@@ -64,9 +66,9 @@ impl Kind for Freeze {
     }
 }
 
-/// The answers to the lines after the first.
-pub fn answers(text: &[u8]) -> Vec<u8> {
-    lines::answers::<Freeze>(text)
+/// Answers the lines after the first.
+pub fn answer(input: &mut Input<impl Read>, out: &mut impl Write) -> io::Result<()> {
+    lines::answer::<Freeze>(input, out)
 }
 
 /// The 60 s scenario that walks every stage.

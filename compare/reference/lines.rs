@@ -1,7 +1,10 @@
 //! Row lines in, answer lines out, for any kind.
 
-use crate::acceptance::{BADLY_FORMED, Before, NO_KIND};
+use std::io::{self, Read, Write};
+
+use crate::acceptance::{BADLY_FORMED, Before};
 use crate::columns::{Columns, WIDTH, put_signed};
+use crate::input::Input;
 
 /// A kind of row file.
 pub trait Kind {
@@ -9,8 +12,6 @@ pub trait Kind {
     type Trace;
     /// Columns of a row line, the time included.
     const COLUMNS: usize;
-    /// Columns of an answer line, the status included.
-    const ANSWER_COLUMNS: usize;
 
     /// The fields after the time.
     fn read(columns: &mut Columns) -> Option<Self::Row>;
@@ -22,78 +23,75 @@ pub trait Kind {
     fn write(trace: &Self::Trace, index: usize, out: &mut Vec<u8>);
 }
 
-/// The statuses of all lines, and the accepted rows.
-pub struct Played<Row> {
-    pub statuses: Vec<u8>,
-    pub times: Vec<f64>,
-    pub rows: Vec<Row>,
-}
-
-/// Reads the lines after the first and decides for each whether it is accepted.
-pub fn play<K: Kind>(mut text: &[u8]) -> Played<K::Row> {
-    let room = text.len() / (K::COLUMNS * WIDTH + 1) + 1;
-    let mut played = Played {
-        statuses: Vec::with_capacity(room),
-        times: Vec::with_capacity(room),
-        rows: Vec::with_capacity(room),
-    };
+/// Answers the lines after the first: decides which rows are accepted, plays those, and prints
+/// their answers among the refusals.
+pub fn answer<K: Kind>(input: &mut Input<impl Read>, out: &mut impl Write) -> io::Result<()> {
+    let mut statuses = Vec::new();
+    let (mut times, mut rows) = (Vec::new(), Vec::new());
     let mut before = Before::default();
-    while !text.is_empty() {
-        let status = match read_line::<K>(text) {
-            Some((time, row)) => {
+    while let Some(line) = next_line::<K>(input)? {
+        let status = match line {
+            Line::Row(time, row) => {
                 let status = K::status(&mut before, time, K::finite(&row));
                 if status == 0 {
-                    played.times.push(time);
-                    played.rows.push(row);
+                    times.push(time);
+                    rows.push(row);
                 }
-                text = &text[K::COLUMNS * WIDTH + 1..];
                 status
             }
-            None => {
-                let end = text.iter().position(|&byte| byte == b'\n');
-                text = end.map_or(&[], |end| &text[end + 1..]);
-                BADLY_FORMED
-            }
+            Line::BadlyFormed => BADLY_FORMED,
         };
-        played.statuses.push(status);
+        statuses.push(status);
     }
-    played
+
+    let trace = K::trace(&times, &rows);
+    let mut text = Vec::with_capacity(1 << 16);
+    let mut accepted = 0;
+    for status in statuses {
+        put_signed(&mut text, status.into());
+        if status == 0 {
+            K::write(&trace, accepted, &mut text);
+            accepted += 1;
+        }
+        text.push(b'\n');
+        if text.len() > text.capacity() - 1000 {
+            out.write_all(&text)?;
+            text.clear();
+        }
+    }
+    out.write_all(&text)
 }
 
-/// The row of the line that `text` begins with, if that line is well formed: its columns hold no
-/// newline, and a newline follows them.
-fn read_line<K: Kind>(text: &[u8]) -> Option<(f64, K::Row)> {
+enum Line<Row> {
+    Row(f64, Row),
+    BadlyFormed,
+}
+
+/// The next line, or none where the input is over. A line is well formed when its columns are, which
+/// then hold no newline, and a newline follows them.
+fn next_line<K: Kind>(input: &mut Input<impl Read>) -> io::Result<Option<Line<K::Row>>> {
+    loop {
+        let text = input.text();
+        if let Some((time, row)) = read_row::<K>(text) {
+            input.consume(K::COLUMNS * WIDTH + 1);
+            return Ok(Some(Line::Row(time, row)));
+        }
+        if let Some(end) = text.iter().position(|&byte| byte == b'\n') {
+            input.consume(end + 1);
+            return Ok(Some(Line::BadlyFormed));
+        }
+        if !input.more()? {
+            let rest = input.text().len();
+            input.consume(rest);
+            return Ok((rest > 0).then_some(Line::BadlyFormed));
+        }
+    }
+}
+
+fn read_row<K: Kind>(text: &[u8]) -> Option<(f64, K::Row)> {
     if text.get(K::COLUMNS * WIDTH) != Some(&b'\n') {
         return None;
     }
     let mut columns = Columns::new(text);
     Some((columns.float()?, K::read(&mut columns)?))
-}
-
-/// The answers to the lines after the first.
-pub fn answers<K: Kind>(text: &[u8]) -> Vec<u8> {
-    let played = play::<K>(text);
-    let trace = K::trace(&played.times, &played.rows);
-    let refused = played.statuses.len() - played.times.len();
-    let mut out = Vec::with_capacity(
-        played.times.len() * (K::ANSWER_COLUMNS * WIDTH + 1) + refused * (WIDTH + 1),
-    );
-    let mut accepted = 0;
-    for status in played.statuses {
-        put_signed(&mut out, status.into());
-        if status == 0 {
-            K::write(&trace, accepted, &mut out);
-            accepted += 1;
-        }
-        out.push(b'\n');
-    }
-    out
-}
-
-/// The one answer to a file whose first line names no kind.
-pub fn no_kind() -> Vec<u8> {
-    let mut out = Vec::new();
-    put_signed(&mut out, NO_KIND.into());
-    out.push(b'\n');
-    out
 }

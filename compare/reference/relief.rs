@@ -1,8 +1,11 @@
 //! Rows and answers of the relief fan group, a module inside the published one.
 
+use std::io::{self, Read, Write};
+
 use super::{Inputs, Trace, expected_times, input_rows, relief_fan_group_trace};
 use crate::acceptance::Before;
 use crate::columns::{Columns, put_flag, put_float, put_signed};
+use crate::input::Input;
 use crate::lines::{self, Kind};
 
 struct Relief;
@@ -11,7 +14,6 @@ impl Kind for Relief {
     type Row = Inputs;
     type Trace = Trace;
     const COLUMNS: usize = 12;
-    const ANSWER_COLUMNS: usize = 10;
 
     fn read(columns: &mut Columns) -> Option<Inputs> {
         Some(Inputs {
@@ -45,9 +47,9 @@ impl Kind for Relief {
     }
 }
 
-/// The answers to the lines after the first.
-pub fn answers(text: &[u8]) -> Vec<u8> {
-    lines::answers::<Relief>(text)
+/// Answers the lines after the first.
+pub fn answer(input: &mut Input<impl Read>, out: &mut impl Write) -> io::Result<()> {
+    lines::answer::<Relief>(input, out)
 }
 
 /// The 15 s scenario.
