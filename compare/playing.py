@@ -2,62 +2,52 @@
 
 import os
 import random
+import signal
 import subprocess
 import tempfile
+import time
 
 import comparing
 from comparing import ANSWERS, REFERENCE, ROWS, TARGET
 
 SECONDS = 60     # longer than a program needs for any of the files
 PIECES = [1, 20, 21, 252, 253, 4000, 4096, 30000, 65536]
+NO_END = f'did not end within {SECONDS} s'
 
 
-def answers(program, path):
-    """What the program prints, and how it ended where that was not well."""
-    with open(path, 'rb') as rows:
-        try:
-            ended = subprocess.run([program], stdin=rows, stdout=subprocess.PIPE, timeout=SECONDS)
-        except subprocess.TimeoutExpired:
-            return b'', f'did not end within {SECONDS} s'
-        except OSError as error:
-            return b'', f'cannot be run: {error}'
-    return ended.stdout, ended.returncode and f'ended with status {ended.returncode}'
-
-
-def answers_by_pieces(program, path, seed):
-    """The same, with the file handed over in pieces of many sizes."""
-    sizes = random.Random(seed)
+def answers(program, path, seed=0):
+    """What the program prints for the rows of a file, and how it ended where that was not well.
+    Every fourth seed hands the rows over in pieces of many sizes."""
+    pieces = random.Random(seed) if seed % 4 == 3 else None
     with open(path, 'rb') as rows, tempfile.TemporaryFile() as out:
         try:
-            process = subprocess.Popen([program], stdin=subprocess.PIPE, stdout=out, bufsize=0)
+            process = subprocess.Popen([program], stdin=subprocess.PIPE if pieces else rows, stdout=out,
+                                       bufsize=0, start_new_session=True)
         except OSError as error:
             return b'', f'cannot be run: {error}'
         try:
-            while piece := rows.read(sizes.choice(PIECES)):
+            while pieces and (piece := rows.read(pieces.choice(PIECES))):
                 process.stdin.write(piece)
-            process.stdin.close()
         except BrokenPipeError:
             pass
+        if pieces:
+            process.stdin.close()
         try:
             status = process.wait(timeout=SECONDS)
         except subprocess.TimeoutExpired:
-            process.kill()
+            os.killpg(process.pid, signal.SIGKILL)
             process.wait()
-            return b'', f'did not end within {SECONDS} s'
+            return b'', NO_END
         out.seek(0)
         return out.read(), status and f'ended with status {status}'
 
 
 def play(program, kind, path, seed=0):
-    """What goes wrong with this file: the place of a difference, a sentence, or None. Every fourth
-    seed hands the file over in pieces."""
+    """What goes wrong with this file: the place of a difference, a sentence, or None."""
     expected, wrong = answers(REFERENCE, path)
     if wrong:
         return f'the reference {wrong}'
-    if seed % 4 == 3:
-        got, wrong = answers_by_pieces(program, path, seed)
-    else:
-        got, wrong = answers(program, path)
+    got, wrong = answers(program, path, seed)
     if wrong:
         return f'the program {wrong}'
     return comparing.difference(kind, expected, got)
@@ -66,20 +56,20 @@ def play(program, kind, path, seed=0):
 class Difference:
     """A file on which the two differ, cut down to lines that suffice for a difference."""
 
-    def __init__(self, program, kind, seed, path, tries=600):
-        self.program, self.kind, self.seed = program, kind, seed
+    def __init__(self, program, kind, seed, path, found, seconds=20):
+        self.program, self.kind, self.seed, self.found = program, kind, seed, found
         self.saved = os.path.join(TARGET, 'difference.rows')
         with open(path, 'rb') as rows:
             self.lines = rows.read().splitlines(keepends=True)
+        end = time.monotonic() + seconds
         size = len(self.lines) // 2
-        while size and self.wrong(self.lines):
+        while size and time.monotonic() < end and self.wrong(self.lines):
             at = len(self.lines) - size
-            while at > 0 and tries > 0:
+            while at > 0 and time.monotonic() < end:
                 shorter = self.lines[:at] + self.lines[at + size:]
                 if self.wrong(shorter):
                     self.lines = shorter
                 at -= size
-                tries -= 1
             size //= 2
 
     def wrong(self, lines):
@@ -88,16 +78,17 @@ class Difference:
         return play(self.program, self.kind, self.saved, self.seed)
 
     def show(self):
-        print(f'first difference: {self.kind}, seed {self.seed}')
+        found = self.found if isinstance(self.found, str) else f'answer line {self.found[0] + 1} differs'
+        print(f'first difference: {self.kind}, seed {self.seed}: {found}')
+        pieces = ', handed over in pieces' if self.seed % 4 == 3 else ''
+        print(f'  the input, cut down to {len(self.lines)} lines{pieces}, is in {os.path.relpath(self.saved)}')
         wrong = self.wrong(self.lines)
         if wrong is None:
-            print('  it did not occur again')
+            print('  played again, the difference did not occur')
         elif isinstance(wrong, str):
             print(f'  {wrong}')
         else:
             self.show_place(*wrong)
-        pieces = ', handed over in pieces' if self.seed % 4 == 3 else ''
-        print(f'  the input, cut down to {len(self.lines)} lines{pieces}, is in {os.path.relpath(self.saved)}')
         for line in self.lines[:20]:
             print(f'    {show_row(self.kind, line)}')
         if len(self.lines) > 20:
@@ -108,7 +99,7 @@ class Difference:
         if place is not None:
             print(f'  column {place + 1}, {ANSWERS[self.kind][place][0]}')
         for word, program in (('expected', REFERENCE), ('got     ', self.program)):
-            text = answers(program, self.saved)[0].split(b'\n')
+            text = answers(program, self.saved, self.seed)[0].split(b'\n')
             if index >= len(text) or index == len(text) - 1 and not text[index]:
                 print(f'  {word} no line')
             elif place is None:

@@ -10,6 +10,7 @@ pub struct Signals {
     pub supply_air_temperature: f64,
     pub software_reset: bool,
     pub stage: i64,
+    pub cold_stage_1: bool,
     pub recovery: bool,
     pub hold_input: bool,
     pub hold: bool,
@@ -73,6 +74,8 @@ pub fn count(counts: &mut Counts) {
         let expires = row.end_of_hour && before.stage == 2 && row.stage == 1;
         counts.when("stage 2 expires and stage 1 follows", expires);
         counts.when("end of hour while no longer cold", row.end_of_hour && !row.hold_input);
+        let alone = row.end_of_hour && !row.cold_stage_1 && !before.stage_1 && row.stage_1;
+        counts.when("end of hour alone calls stage 1", alone);
         counts.when("hold kept on against its input", row.hold && !row.hold_input);
         let drops = before.hold && !row.hold;
         counts.when("hold drops and stage 2 stays", drops && row.stage_2);

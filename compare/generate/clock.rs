@@ -96,19 +96,21 @@ pub fn spans(random: &mut Random, rows: usize) -> Vec<f64> {
     times
 }
 
-/// Rising times after `begin`, `rows` uneven ones, then those so many seconds `before_end`, then the
-/// end of the delay. Tries are made to have the sum of the gaps and the difference of the times
-/// part: one reaches the delay and the other does not.
-pub fn parted(random: &mut Random, begin: f64, delay: f64, rows: usize, before_end: &[f64]) -> Vec<f64> {
+/// Rising times: the first within a second after `start`, `rows` uneven ones, then those so many
+/// seconds `before_end`, then the end of a delay that runs from the first. They are chosen, if tries
+/// find such, to have the sum of the gaps and the difference of the times part: one of the two
+/// reaches the delay and the other does not. The nearer to 0, the likelier.
+pub fn parted(random: &mut Random, start: f64, delay: f64, rows: usize, before_end: &[f64]) -> Vec<f64> {
     let mut times = Vec::new();
-    for _ in 0..300 {
+    for _ in 0..1000 {
+        let begin = start + random.unit();
         let end = random.beside(begin + delay);
-        times = before_end.iter().map(|before| end - before).collect();
-        times.push(end);
-        let room = times[0] - begin;
-        times.extend((0..rows).map(|_| begin + room * random.unit()));
+        let last: Vec<f64> = before_end.iter().map(|before| end - before).chain([end]).collect();
+        times = (0..rows).map(|_| begin + (last[0] - begin) * random.unit()).collect();
+        times.extend(last);
         times.sort_by(f64::total_cmp);
-        let (sum, _) = times.iter().fold((0.0, begin), |(sum, last), time| (sum + (time - last), *time));
+        times.insert(0, begin);
+        let sum = times.windows(2).fold(0.0, |sum, pair| sum + (pair[1] - pair[0]));
         if (sum >= delay) != (end - begin >= delay) {
             break;
         }

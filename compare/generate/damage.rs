@@ -24,6 +24,7 @@ pub fn damaged_line(random: &mut Random, row: &Row) -> Vec<u8> {
         11 => text.truncate(random.below(row.len()) * WIDTH),
         12 => text.insert(random_place(random, row), b' '),
         13 => text.extend_from_slice(b"                    0"),
+        14 if random.one_in(2) => text = text.repeat(random.between(2, 300)),
         14 => text.extend((0..random.between(400, 70_000)).map(|i| b" 0123456789"[i % 11])),
         15 => text.clear(),
         16 => text = (0..random.between(1, 600)).map(|_| random.bits() as u8).collect(),

@@ -145,22 +145,25 @@ fn ladder(random: &mut Random, rows: Option<usize>) -> Vec<Row> {
 fn uneven(random: &mut Random, rows: Option<usize>) -> Vec<Row> {
     let mut out = Rows::new(random);
     (out.fan, out.stage) = (true, 0);
-    let mut clock = Clock::at(random.unit() / 2.0);
     let delay = random.pick(&DELAYS);
+    let middle = rows.unwrap_or(random.between(6, 40)).saturating_sub(4);
+    let times = parted(random, 0.0, delay, middle, &[]);
     let mut outdoor = 297.0;
     if delay == 600.0 {
+        // The hold waits from row 0.
         outdoor = random.pick(&[290.0, 297.0]);
-        out.push(clock.now, outdoor);
+        out.push(times[0], outdoor);
         outdoor = 587.0 - outdoor;
     } else {
-        out.push(clock.now, outdoor);
+        // The delay waits from row 1, the first that is not enabled.
+        out.push(0.0, outdoor);
         out.stage = 1;
-        out.push(clock.step(random.unit() / 2.0), outdoor);
+        out.push(times[0], outdoor);
     }
-    let middle = rows.unwrap_or(random.between(6, 40)).saturating_sub(4);
-    for time in parted(random, clock.now, delay, middle, &[]) {
-        out.push(clock.move_to(time), outdoor);
+    for &time in &times[1..] {
+        out.push(time, outdoor);
     }
+    let mut clock = Clock::at(times[times.len() - 1]);
     for delay in [15.0, 180.0] {
         let end = clock.now + delay;
         out.push(clock.move_to(random.beside(end)), outdoor);
@@ -174,6 +177,14 @@ fn fine_step(random: &mut Random, rows: Option<usize>) -> Vec<Row> {
     let mut clock = Clock::start(random);
     let gap = random.pick(&[0.0625, 0.05, 0.1, 0.3]);
     let outdoor = random.pick(&[290.0, 297.0]);
+    if random.one_in(4) {
+        // Sums so large that the order of the factors shows.
+        out.push(clock.now, outdoor);
+        let setpoint = out.setpoint;
+        out.setpoint = random.range(-3e306, 3e306);
+        out.push(clock.step(300.0), outdoor);
+        out.setpoint = setpoint;
+    }
     for _ in 0..rows.unwrap_or(random.between(100, 400)) {
         out.wander(random);
         if random.one_in(10) {

@@ -5,7 +5,7 @@ use crate::clock::{Clock, parted, spans};
 use crate::random::{Random, marks};
 
 pub const PLANS: &[fn(&mut Random, Option<usize>) -> Vec<Row>] =
-    &[winter, edges, ladder, ladder, hour, fine_step, overflow, spans_plan];
+    &[winter, edges, ladder, bands, hour, fine_step, overflow, spans_plan];
 
 const DELAYS: [f64; 3] = [300.0, 900.0, 3600.0];
 
@@ -136,24 +136,53 @@ fn ladder(random: &mut Random, rows: Option<usize>) -> Vec<Row> {
     out.rows
 }
 
+/// Cold and warm runs that begin one step inside a threshold and stay one step inside its band, or
+/// fail to, up to the end of their delay.
+fn bands(random: &mut Random, rows: Option<usize>) -> Vec<Row> {
+    let mut out = Rows::new(random);
+    let mut clock = Clock::start(random);
+    let count = rows.unwrap_or(random.between(20, 250));
+    while out.rows.len() < count {
+        let warm = (280.15, 280.15 - 0.25, 300.0);
+        let cold = [(277.55, 300.0), (276.45, 300.0), (276.45, 900.0), (274.15, 300.0)];
+        let (level, delay) = random.pick(&cold);
+        for (enter, stay, delay) in [(level, level + 0.25, delay), warm] {
+            out.wander(random);
+            let inside = |value: f64| if stay > enter { value.next_down() } else { value.next_up() };
+            let first = if random.one_in(4) { random.beside(enter) } else { inside(enter) };
+            let begin = clock.step(random.range(0.0, 60.0));
+            out.push(begin, first, false);
+            for _ in 0..random.below(4) {
+                clock.move_to(begin + delay * random.range(0.0, 0.999));
+                let value = if random.one_in(6) { random.beside(stay) } else { inside(stay) };
+                out.push(clock.now, value, false);
+            }
+            clock.move_to(begin + delay);
+            out.push(clock.now, inside(stay), random.one_in(8));
+        }
+    }
+    out.rows.truncate(count);
+    out.rows
+}
+
 /// An hour in uneven steps after a start near 0, where the sum of the gaps and the difference of
-/// the times part, with recovery about to fall on its last row.
+/// the times part, with recovery on its last row or before it.
 fn hour(random: &mut Random, rows: Option<usize>) -> Vec<Row> {
     let mut out = Rows::new(random);
-    let mut clock = Clock::at(random.unit() * random.pick(&[1.0, 30.0, 600.0]));
-    let begin = clock.now;
+    let begin = random.unit() * random.pick(&[1.0, 30.0, 600.0]);
     out.push(begin, 276.0, false);
-    let late = if random.one_in(2) { random.unit() } else { 0.0 };
-    let held = clock.move_to(begin + 300.0 + late);
-    out.push(held, 276.0, false);
     let supply = random.pick(&[276.0, 278.0, 278.0]);
-    let last = random.pick(&[281.0, 281.0, 278.0, 276.0]);
+    let last = random.pick(&[281.0, 281.0, 281.0, 276.0]);
+    let turns = random.pick(&[300.0, 700.0]);
     let middle = rows.unwrap_or(random.between(6, 60)).saturating_sub(6);
-    for time in parted(random, held, 3600.0, middle, &[300.0]) {
+    let times = parted(random, begin + 300.0, 3600.0, middle, &[turns, turns / 2.0]);
+    let (held, end) = (times[0], times[times.len() - 1]);
+    for time in times {
         out.wander(random);
-        clock.move_to(time);
-        out.push(clock.now, if time - held < 3290.0 { supply } else { last }, false);
+        let first = if time == held { 276.0 } else { supply };
+        out.push(time, if time < end - turns { first } else { last }, false);
     }
+    let mut clock = Clock::at(end);
     out.push(clock.step(random.range(0.0, 400.0)), last, false);
     out.push(clock.step(300.0), random.pick(&[276.0, 281.0]), false);
     out.rows
@@ -166,7 +195,15 @@ fn fine_step(random: &mut Random, rows: Option<usize>) -> Vec<Row> {
     let gap = random.pick(&[0.0625, 0.0625, 0.05, 0.1, 0.3]);
     let cold = random.pick(&[273.0, 277.0]);
     out.push(clock.now, cold, false);
-    out.push(clock.step(300.0), cold, false);
+    clock.step(300.0);
+    if random.one_in(4) {
+        // Sums so large that the order of the factors shows.
+        out.mixed = -random.range(0.5e306, 3e306);
+        out.push(clock.now, out.mixed, false);
+        out.mixed = 300.15;
+    } else {
+        out.push(clock.now, cold, false);
+    }
     let (mut supply, mut reset) = (cold, false);
     for _ in 0..rows.unwrap_or(random.between(100, 400)) {
         if random.one_in(20) {

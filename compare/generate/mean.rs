@@ -58,6 +58,27 @@ impl Mean {
         (self.sum, self.last) = (sum, Some(time));
     }
 
+    /// A pressure that takes the sum at `time` from what it was to about `factor` times that.
+    pub fn pull(&self, time: f64, factor: f64) -> f64 {
+        let pressure = (self.sum * factor - self.sum) / (time - self.last_time());
+        if pressure.is_finite() { pressure } else { 18.0 }
+    }
+
+    /// Whether the window of 512 points has room for a row at `time`.
+    pub fn has_room(&self, time: f64) -> bool {
+        let old = self.points.partition_point(|point| point.0 <= time - 300.0);
+        self.points.len() - old.saturating_sub(1) < 512 || self.last == Some(time)
+    }
+
+    pub fn last_time(&self) -> f64 {
+        self.last.unwrap_or(0.0)
+    }
+
+    /// The time of the second point, whose 300th second makes room in a full window.
+    pub fn second_time(&self) -> f64 {
+        self.points.get(1).map_or(0.0, |point| point.0)
+    }
+
     /// Pressures that bring the limited loop as near to `target` as floats allow: at most it, and
     /// at least it.
     pub fn aim(&self, time: f64, target: f64) -> (f64, f64) {

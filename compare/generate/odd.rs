@@ -53,7 +53,9 @@ pub fn odd_field(random: &mut Random, row: &Row) -> Row {
         }
         Cell::Signed(value) => {
             let any = random.bits() as i64;
-            let values = [i64::MIN, i64::MAX, i64::MIN + 1, -1, 0, 1, 2, 3, 256, 1 << 32, any, !value];
+            // Numbers that are small when cut to 8 or 32 bits, too.
+            let cut = (any & 3) + random.pick(&[1 << 8, 1 << 32, i64::MIN]);
+            let values = [i64::MIN, i64::MAX, -1, 0, 1, 2, 3, cut, cut, any, !value];
             Cell::Signed(random.pick(&values))
         }
         Cell::Flag(value) => Cell::Flag(!value),

@@ -6,7 +6,7 @@ use crate::mean::Mean;
 use crate::random::{Random, marks};
 
 pub const PLANS: &[fn(&mut Random, Option<usize>) -> Vec<Row>] =
-    &[day, edges, pulses, pulses, fill, overflow, spans_plan];
+    &[day, edges, pulses, pulses, echo, fill, overflow, spans_plan];
 
 const DELAYS: [f64; 3] = [2.0, 300.0, 420.0];
 
@@ -134,9 +134,15 @@ fn pulses(random: &mut Random, rows: Option<usize>) -> Vec<Row> {
         if random.one_in(4) {
             out.wander(random);
         }
-        out.push(clock.move_to(random.beside(begin + delay)), pressure);
-        for _ in 0..random.below(4) {
-            let end = clock.now + random.pick(&[0.0, 1.0, 2.0, 15.0]);
+        let end = random.beside(begin + delay);
+        if random.one_in(2) {
+            // A change of proofs whose 2 s are just over at the pulse, or are not.
+            out.prove(random.below(5));
+            out.push(clock.move_to(random.beside(end - 2.0)), pressure);
+        }
+        out.push(clock.move_to(end), pressure);
+        for _ in 0..random.below(6) {
+            let end = clock.now + random.pick(&[0.0, 1.0, 2.0, 2.0, 2.0, 15.0]);
             if random.one_in(2) {
                 proven = moved;
                 out.prove(proven);
@@ -150,29 +156,60 @@ fn pulses(random: &mut Random, rows: Option<usize>) -> Vec<Row> {
     out.rows
 }
 
+/// Rows exactly 300 s after earlier ones, some of them twice, with sums that fall and change sign, so
+/// that the roundings of the mean show.
+fn echo(random: &mut Random, rows: Option<usize>) -> Vec<Row> {
+    let mut out = Rows::new();
+    let mut clock = Clock::at(random.pick(&[0.0, 1000.0]));
+    let first = random.between(5, 30);
+    let mut times = vec![clock.now];
+    for index in 1..rows.unwrap_or(random.between(40, 150)) {
+        if index < first {
+            times.push(clock.step(random.between(1, 1000) as f64 / 128.0));
+        } else {
+            times.push(clock.move_to(times[index - first] + 300.0));
+        }
+    }
+    let mut mean = Mean::default();
+    for time in times {
+        if random.one_in(4) {
+            out.wander(random);
+        }
+        for _ in 0..random.between(1, 2) {
+            let pressures = [random.range(-60.0, 80.0), mean.pull(time, random.range(-1.6, -0.4))];
+            let pressure = random.pick(&pressures);
+            mean.take(time, pressure);
+            out.push(time, pressure);
+        }
+    }
+    out.rows
+}
+
 /// More rows in 300 s than the window holds, and the times at which room comes free again.
 fn fill(random: &mut Random, rows: Option<usize>) -> Vec<Row> {
     let mut out = Rows::new();
-    let mut clock = Clock::at(random.pick(&[0.0, 0.0, 0.25, 1000.0, 0.1]));
-    let begin = clock.now;
+    let mut mean = Mean::default();
+    let mut time = random.pick(&[0.0, 0.0, 0.25, 1000.0, 0.1]);
     let gap = random.pick(&[0.5, 0.5, 0.25, 0.1, 0.58]);
-    let filling = random.between(508, 560);
-    for _ in 0..filling {
+    let filling = random.between(508, 530);
+    let count = rows.unwrap_or(random.between(550, 650));
+    for index in 0..count {
         if random.one_in(5) {
             out.wander(random);
         }
-        out.push(clock.now, random.range(8.0, 24.0));
-        clock.step(gap);
-    }
-    for _ in 0..rows.map_or(random.between(20, 120), |rows| rows.saturating_sub(filling)) {
-        let point = begin + gap * random.between(0, 40) as f64;
-        match random.below(6) {
-            0 => clock.step(gap),
-            1 => clock.now,
-            2 => clock.step(random.range(0.0, 3.0)),
-            _ => clock.move_to(random.beside(point + 300.0)),
+        let pressure = random.range(-10.0, 30.0);
+        out.push(time, pressure);
+        if mean.has_room(time) {
+            mean.take(time, pressure);
+        }
+        let last = mean.last_time();
+        time = match random.below(if index < filling { 1 } else { 8 }) {
+            0 => last + gap,
+            1 => last,
+            2 => last + random.range(0.0, 3.0),
+            3 => last + 300.0 * random.unit(),
+            _ => random.beside(mean.second_time() + 300.0).max(last),
         };
-        out.push(clock.now, random.range(8.0, 24.0));
     }
     out.rows
 }
@@ -198,12 +235,13 @@ fn overflow(random: &mut Random, rows: Option<usize>) -> Vec<Row> {
 /// Times over the whole range of floats.
 fn spans_plan(random: &mut Random, rows: Option<usize>) -> Vec<Row> {
     let mut out = Rows::new();
-    let mut pressure = 18.0;
+    let mut mean = Mean::default();
     let count = rows.unwrap_or(random.between(5, 80));
     for time in spans(random, count) {
-        if random.one_in(4) {
-            pressure = random.pick(&[18.0, 12.0, 0.0, -0.0, 24.0, 1e-310]);
-        }
+        let pull = mean.pull(time, random.range(-1.6, -0.4));
+        let pressures = [18.0, 24.0, 0.0, -0.0, 1e-310, random.range(-20.0, 40.0), pull, pull];
+        let pressure = random.pick(&pressures);
+        mean.take(time, pressure);
         out.wander(random);
         out.push(time, pressure);
     }

@@ -28,7 +28,8 @@ impl<Source: Read> Input<Source> {
         self.from += count;
     }
 
-    /// Reads on, or says that the input is over. Only called where the text holds no newline.
+    /// Reads on, or says that the input is over. Called where the text is no whole line, so that a
+    /// full buffer holds a part of one line.
     pub fn more(&mut self) -> io::Result<bool> {
         self.buffer.copy_within(self.from..self.to, 0);
         (self.from, self.to) = (0, self.to - self.from);
