@@ -16,7 +16,10 @@ pub struct Counts {
 
 impl Counts {
     fn new(kind: &'static str) -> Self {
-        Self { kind, events: Vec::new() }
+        Self {
+            kind,
+            events: Vec::new(),
+        }
     }
 
     pub fn when(&mut self, event: &str, happened: bool) {
@@ -34,13 +37,23 @@ impl Counts {
         for (here, &time) in times.iter().enumerate() {
             let recent = &times[here.saturating_sub(6)..here];
             gap_sum += recent.last().map_or(0.0, |last| time - last);
-            self.when("row at the time of the row before", recent.last() == Some(&time));
+            self.when(
+                "row at the time of the row before",
+                recent.last() == Some(&time),
+            );
             self.when("infinite sum of gaps", gap_sum == f64::INFINITY);
             for delay in delays {
-                let some = |end: fn(f64) -> f64| recent.iter().any(|&begin| end(begin + delay) == time);
+                let some =
+                    |end: fn(f64) -> f64| recent.iter().any(|&begin| end(begin + delay) == time);
                 self.when(&format!("row {delay} s after another"), some(|end| end));
-                self.when(&format!("row one step before {delay} s are over"), some(f64::next_down));
-                self.when(&format!("row one step after {delay} s are over"), some(f64::next_up));
+                self.when(
+                    &format!("row one step before {delay} s are over"),
+                    some(f64::next_down),
+                );
+                self.when(
+                    &format!("row one step after {delay} s are over"),
+                    some(f64::next_up),
+                );
             }
         }
     }
@@ -48,31 +61,32 @@ impl Counts {
 
 /// The counts over all these files, a line each: kind, event and count with tabs between.
 pub fn count(files: &[&str]) -> Result<Vec<u8>, String> {
-    let mut all = [Counts::new("freeze"), Counts::new("relief"), Counts::new("econ")];
-    let mut refused_files = 0;
+    let mut any = Counts::new("any");
+    let mut kinds = ["freeze", "relief", "econ"].map(Counts::new);
     for file in files {
         let text = std::fs::read(file).map_err(|error| format!("{file}: {error}"))?;
         let mut answers = Vec::new();
         crate::answer(&text[..], &mut answers).map_err(|error| format!("{file}: {error}"))?;
-        let first = text.iter().position(|&byte| byte == b'\n').map_or(&text[..], |end| &text[..end]);
-        let Some(counts) = all.iter_mut().find(|counts| counts.kind.as_bytes() == first)
-        else {
-            refused_files += 1;
-            continue;
-        };
-        if answers.starts_with(b"                    6") {
-            refused_files += 1;
-            continue;
-        }
-        refused::count(counts, &text[first.len() + 1..], &answers);
-        match counts.kind {
-            "freeze" => freeze::count(counts),
-            "relief" => relief::count(counts),
-            _ => econ::count(counts),
+
+        let end = text.iter().position(|&byte| byte == b'\n');
+        let (first, rest) = text.split_at(end.map_or(text.len(), |end| end + 1));
+        let refused = answers == b"                    6\n";
+        any.when("empty file", text.is_empty());
+        any.when("first line alone", !refused && rest.is_empty());
+        any.when("6: no newline in the file", refused && end.is_none());
+        any.when("6: another first line", refused && end.is_some());
+        let named = |counts: &&mut Counts| first == format!("{}\n", counts.kind).as_bytes();
+        if let Some(counts) = kinds.iter_mut().find(named) {
+            refused::count(counts, rest, &answers);
+            match counts.kind {
+                "freeze" => freeze::count(counts),
+                "relief" => relief::count(counts),
+                _ => econ::count(counts),
+            }
         }
     }
-    let mut out = format!("any\tfile refused with 6\t{refused_files}\n");
-    for counts in &all {
+    let mut out = String::new();
+    for counts in [any].iter().chain(&kinds) {
         for (event, count) in &counts.events {
             out += &format!("{}\t{event}\t{count}\n", counts.kind);
         }

@@ -36,8 +36,10 @@ const USAGE: &str = "usage: generate KIND SEED [ROWS]
 KIND is freeze, relief or econ; SEED and ROWS are whole numbers, ROWS from 1 to 10000000";
 
 fn main() -> ExitCode {
-    let arguments: Vec<String> =
-        std::env::args_os().skip(1).map(|word| word.to_string_lossy().into_owned()).collect();
+    let arguments: Vec<String> = std::env::args_os()
+        .skip(1)
+        .map(|word| word.to_string_lossy().into_owned())
+        .collect();
     let words: Vec<&str> = arguments.iter().map(String::as_str).collect();
     let written = file(&words).and_then(|file| {
         let mut out = io::stdout().lock();
@@ -65,12 +67,16 @@ fn file(words: &[&str]) -> Result<Vec<u8>, String> {
         ["dense", count, seed] if kind == "relief" => clean(kind, rows(count)?, whole(seed)?, 0.6),
         [seed] => Ok(played(kind, whole(seed)?, None)),
         [seed, count] => Ok(played(kind, whole(seed)?, Some(rows(count)?))),
-        _ => Err(format!("this command line has no meaning: {}\n{USAGE}", words.join(" "))),
+        _ => Err(format!(
+            "this command line has no meaning: {}\n{USAGE}",
+            words.join(" ")
+        )),
     }
 }
 
 fn whole(word: &str) -> Result<u64, String> {
-    word.parse().map_err(|_| format!("not a whole number: {word}\n{USAGE}"))
+    word.parse()
+        .map_err(|_| format!("not a whole number: {word}\n{USAGE}"))
 }
 
 fn rows(word: &str) -> Result<usize, String> {
@@ -114,11 +120,14 @@ fn played(kind: &str, seed: u64, count: Option<usize>) -> Vec<u8> {
         "relief" => relief::PLANS,
         _ => econ::PLANS,
     };
-    let betweens = [Nothing, OddTimes, OddFields, Damage, Everything, AnySize, Damage];
+    let betweens = [
+        Nothing, OddTimes, OddFields, Damage, Everything, AnySize, Damage,
+    ];
     let plan = plans[(seed % plans.len() as u64) as usize];
     let between = betweens[(seed / plans.len() as u64 % betweens.len() as u64) as usize];
 
-    let mut random = Random::new(seed ^ (kind.len() as u64) << 56 ^ u64::from(kind.as_bytes()[0]) << 48);
+    let mut random =
+        Random::new(seed ^ (kind.len() as u64) << 56 ^ u64::from(kind.as_bytes()[0]) << 48);
     let rows = plan(&mut random, count);
     let mut file = first_line(&mut random, kind, between);
     let often = random.pick(&[2, 10, 40]);

@@ -81,7 +81,8 @@ class Difference:
         found = self.found if isinstance(self.found, str) else f'answer line {self.found[0] + 1} differs'
         print(f'first difference: {self.kind}, seed {self.seed}: {found}')
         pieces = ', handed over in pieces' if self.seed % 4 == 3 else ''
-        print(f'  the input, cut down to {len(self.lines)} lines{pieces}, is in {os.path.relpath(self.saved)}')
+        saved = os.path.relpath(self.saved)
+        print(f'  the input, cut down to {len(self.lines)} lines{pieces}, is in {saved}')
         wrong = self.wrong(self.lines)
         if wrong is None:
             print('  played again, the difference did not occur')

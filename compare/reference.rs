@@ -40,8 +40,10 @@ const USAGE: &str = "usage: reference < ROWS > ANSWERS
        reference scenario freeze|fine_step|relief|econ";
 
 fn main() -> ExitCode {
-    let arguments: Vec<String> =
-        std::env::args_os().skip(1).map(|word| word.to_string_lossy().into_owned()).collect();
+    let arguments: Vec<String> = std::env::args_os()
+        .skip(1)
+        .map(|word| word.to_string_lossy().into_owned())
+        .collect();
     let words: Vec<&str> = arguments.iter().map(String::as_str).collect();
     match run(&words) {
         Ok(()) => ExitCode::SUCCESS,
@@ -64,7 +66,10 @@ fn run(words: &[&str]) -> Result<(), String> {
         ["scenario", "econ"] => print(&econ::scenario()),
         #[cfg(events)]
         ["count", files @ ..] if !files.is_empty() => print(&events::count(files)?),
-        _ => Err(format!("this command line has no meaning: {}\n{USAGE}", words.join(" "))),
+        _ => Err(format!(
+            "this command line has no meaning: {}\n{USAGE}",
+            words.join(" ")
+        )),
     }
 }
 

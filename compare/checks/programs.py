@@ -24,7 +24,8 @@ def check_scenarios():
             got = b''.join(line[:42] + line[189:210] + b'\n' for line in got.splitlines())
         check(f'the edited Rust answers its own {scenario} rows as the published Rust does',
               '' if published and got == published else 'the answers differ')
-    tests = subprocess.run([os.path.join(TARGET, 'reference_tests'), '--quiet'], stdout=subprocess.PIPE, text=True)
+    tests = subprocess.run([os.path.join(TARGET, 'reference_tests'), '--quiet'],
+                           stdout=subprocess.PIPE, text=True)
     check('R4 and E4, tested on the Rust itself', '' if tests.returncode == 0 else tests.stdout)
 
 
@@ -32,7 +33,8 @@ def check_edits():
     """Text that an edit expects is missing, or is there twice."""
     for name, old, new in [
             ('freeze_protection.rs', 'let row = input_row(t);', 'let row = input_row(t) ;'),
-            ('freeze_protection/fine_step.rs', 'fn input_row(', '//fn input_row(t: f64) -> Inputs {\nfn input_row('),
+            ('freeze_protection/fine_step.rs', 'fn input_row(',
+             '//fn input_row(t: f64) -> Inputs {\nfn input_row('),
             ('relief_fan_group.rs', 'fn relief_fan_group_trace(time: &[f64])', 'fn trace(time: &[f64])'),
             ('relief_fan_group.rs', 'fn goldens()', 'fn golden()'),
             ('economizer_controller.rs', '.push(if close_outdoor_damper {', '.push(if close {')]:
@@ -71,7 +73,8 @@ def check_build():
         script(os.path.join(tools, 'rustc'), '#!/bin/bash\nexit 1\n')
         ended = run()
         check('with rustc, a comparison that cannot be built is a failure',
-              '' if ended.returncode != 0 and ended.stdout.endswith('\n0 passed, 1 failed\n') else ended.stdout)
+              '' if ended.returncode != 0
+              and ended.stdout.endswith('\n0 passed, 1 failed\n') else ended.stdout)
 
 
 def refuses(name, words, **streams):

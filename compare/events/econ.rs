@@ -44,14 +44,26 @@ pub fn count(counts: &mut Counts) {
     for (index, row) in LOOPS.take().into_iter().enumerate() {
         counts.when("fan rises on row 0", row.fan_rises && index == 0);
         counts.when("fan rises later", row.fan_rises && index > 0);
-        counts.when("rising fan resets a sum that is not 0", row.fan_rises && row.sum != 0.0);
-        counts.when("loop between its limits", row.unlimited > 0.0 && row.unlimited < 1.0);
+        counts.when(
+            "rising fan resets a sum that is not 0",
+            row.fan_rises && row.sum != 0.0,
+        );
+        counts.when(
+            "loop between its limits",
+            row.unlimited > 0.0 && row.unlimited < 1.0,
+        );
         counts.when("loop below its limits", row.unlimited < 0.0);
         counts.when("loop above its limits", row.unlimited > 1.0);
         counts.when("loop at NaN", row.unlimited.is_nan());
         counts.when("fan on and not occupied", row.fan && !row.occupied);
-        counts.when("signal on the outdoor damper's line", row.signal > -0.25 && row.signal < 0.0);
-        counts.when("signal on the return damper's line", row.signal > 0.0 && row.signal < 0.25);
+        counts.when(
+            "signal on the outdoor damper's line",
+            row.signal > -0.25 && row.signal < 0.0,
+        );
+        counts.when(
+            "signal on the return damper's line",
+            row.signal > 0.0 && row.signal < 0.25,
+        );
         for edge in [-0.25, 0.0, 0.25] {
             counts.when(&format!("signal at {edge}"), row.signal == edge);
         }
@@ -68,8 +80,14 @@ pub fn count(counts: &mut Counts) {
         let step = 2f64.powi(-44);
         for edge in [0.0, -1.0] {
             counts.when(&format!("difference at {edge}"), row.difference == edge);
-            counts.when(&format!("difference one step below {edge}"), row.difference == edge - step);
-            counts.when(&format!("difference one step above {edge}"), row.difference == edge + step);
+            counts.when(
+                &format!("difference one step below {edge}"),
+                row.difference == edge - step,
+            );
+            counts.when(
+                &format!("difference one step above {edge}"),
+                row.difference == edge + step,
+            );
         }
         let first = index == 0;
         counts.when("condition on", row.condition && !before.condition);
@@ -83,16 +101,37 @@ pub fn count(counts: &mut Counts) {
         counts.when("disabled by the hold", ends && !row.hold);
         counts.when("disabled by the fan", ends && row.hold && !row.fan);
         counts.when("disabled by the stage", ends && row.hold && row.stage != 0);
-        counts.when("both delays true on row 0", first && row.outdoor_delay && row.return_delay);
-        counts.when("outdoor delay turns true", !first && row.outdoor_delay && !before.outdoor_delay);
-        counts.when("outdoor delay turns false", !row.outdoor_delay && before.outdoor_delay);
-        counts.when("return delay turns true", !first && row.return_delay && !before.return_delay);
-        counts.when("return delay turns false", !row.return_delay && before.return_delay);
-        counts.when("outdoor delay true, return delay not", row.outdoor_delay && !row.return_delay);
+        counts.when(
+            "both delays true on row 0",
+            first && row.outdoor_delay && row.return_delay,
+        );
+        counts.when(
+            "outdoor delay turns true",
+            !first && row.outdoor_delay && !before.outdoor_delay,
+        );
+        counts.when(
+            "outdoor delay turns false",
+            !row.outdoor_delay && before.outdoor_delay,
+        );
+        counts.when(
+            "return delay turns true",
+            !first && row.return_delay && !before.return_delay,
+        );
+        counts.when(
+            "return delay turns false",
+            !row.return_delay && before.return_delay,
+        );
+        counts.when(
+            "outdoor delay true, return delay not",
+            row.outdoor_delay && !row.return_delay,
+        );
 
         // The hold waits from its last change, the delays from where the row was first disabled.
         hold.pass(row.t);
-        counts.when("sum of gaps parts from difference at 600 s", row.condition != before.hold && hold.parts(600.0));
+        counts.when(
+            "sum of gaps parts from difference at 600 s",
+            row.condition != before.hold && hold.parts(600.0),
+        );
         if first || row.hold != before.hold {
             hold = Wait::from(row.t);
         }
@@ -118,7 +157,11 @@ struct Wait {
 
 impl Wait {
     fn from(time: f64) -> Self {
-        Self { begin: time, last: time, sum: 0.0 }
+        Self {
+            begin: time,
+            last: time,
+            sum: 0.0,
+        }
     }
 
     fn pass(&mut self, time: f64) {

@@ -54,8 +54,14 @@ pub fn count(counts: &mut Counts) {
             ("280.15", 280.15),
         ] {
             counts.when(&format!("supply at {name}"), supply == edge);
-            counts.when(&format!("supply one step below {name}"), supply == edge.next_down());
-            counts.when(&format!("supply one step above {name}"), supply == edge.next_up());
+            counts.when(
+                &format!("supply one step below {name}"),
+                supply == edge.next_down(),
+            );
+            counts.when(
+                &format!("supply one step above {name}"),
+                supply == edge.next_up(),
+            );
         }
 
         for stage in 1..=3 {
@@ -63,25 +69,49 @@ pub fn count(counts: &mut Counts) {
             counts.when(&format!("stage {stage} reached"), reached);
         }
         let rises = row.stage_3_call() && !before.stage_3_call();
-        counts.when("stage 3 after 300 s below 274.15", rises && row.stage_3 && row.cold_300);
-        counts.when("stage 3 after 900 s below 276.45", rises && row.stage_3 && !row.cold_300);
-        counts.when("reset on the row of the stage 3 rise", rises && row.software_reset);
+        counts.when(
+            "stage 3 after 300 s below 274.15",
+            rises && row.stage_3 && row.cold_300,
+        );
+        counts.when(
+            "stage 3 after 900 s below 276.45",
+            rises && row.stage_3 && !row.cold_300,
+        );
+        counts.when(
+            "reset on the row of the stage 3 rise",
+            rises && row.software_reset,
+        );
         let reset = before.stage_3 && row.software_reset;
         counts.when("reset ends stage 3", reset);
-        counts.when("reset while the stage 3 call stays", reset && row.stage_3_call());
-        counts.when("stage 3 on again after a reset", rises && row.stage_3 && before.stage_2);
+        counts.when(
+            "reset while the stage 3 call stays",
+            reset && row.stage_3_call(),
+        );
+        counts.when(
+            "stage 3 on again after a reset",
+            rises && row.stage_3 && before.stage_2,
+        );
         counts.when("end of hour", row.end_of_hour);
         let expires = row.end_of_hour && before.stage == 2 && row.stage == 1;
         counts.when("stage 2 expires and stage 1 follows", expires);
-        counts.when("end of hour while no longer cold", row.end_of_hour && !row.hold_input);
+        counts.when(
+            "end of hour while no longer cold",
+            row.end_of_hour && !row.hold_input,
+        );
         let alone = row.end_of_hour && !row.cold_stage_1 && !before.stage_1 && row.stage_1;
         counts.when("end of hour alone calls stage 1", alone);
-        counts.when("hold kept on against its input", row.hold && !row.hold_input);
+        counts.when(
+            "hold kept on against its input",
+            row.hold && !row.hold_input,
+        );
         let drops = before.hold && !row.hold;
         counts.when("hold drops and stage 2 stays", drops && row.stage_2);
         counts.when("recovery", row.recovery);
         counts.when("recovery ends stage 1", row.recovery && before.stage_1);
-        counts.when("recovery on the end-of-hour row", row.recovery && row.end_of_hour);
+        counts.when(
+            "recovery on the end-of-hour row",
+            row.recovery && row.end_of_hour,
+        );
         let heats = row.stage_1 || row.stage_3;
         let between = row.heating_coil > 0.0 && row.heating_coil < 1.0;
         counts.when("loop between its limits", heats && between);

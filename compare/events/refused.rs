@@ -39,17 +39,30 @@ pub fn count(counts: &mut Counts, text: &[u8], answers: &[u8]) {
         counts.when("row accepted", status == b'0');
         for refusal in 1..=5 {
             if refusal != 4 || counts.kind == "relief" {
-                counts.when(&format!("row refused with {refusal}"), status == b'0' + refusal);
+                counts.when(
+                    &format!("row refused with {refusal}"),
+                    status == b'0' + refusal,
+                );
             }
         }
         if counts.kind != "econ" {
             counts.when("answer with a NaN", contains(answer, "9221120237041090560"));
         }
         if counts.kind != "freeze" {
-            counts.when("least signed number taken", status == b'0' && contains(line, "-9223372036854775808"));
-            counts.when("largest signed number taken", status == b'0' && contains(line, "9223372036854775807"));
+            counts.when(
+                "least signed number taken",
+                status == b'0' && contains(line, "-9223372036854775808"),
+            );
+            counts.when(
+                "largest signed number taken",
+                status == b'0' && contains(line, "9223372036854775807"),
+            );
         }
-        let sort = if status == b'5' { sort(line, end.is_some(), columns) } else { "" };
+        let sort = if status == b'5' {
+            sort(line, end.is_some(), columns)
+        } else {
+            ""
+        };
         for name in SORTS {
             counts.when(&format!("5: {name}"), name == sort);
         }
@@ -57,7 +70,8 @@ pub fn count(counts: &mut Counts, text: &[u8], answers: &[u8]) {
 }
 
 fn contains(line: &[u8], number: &str) -> bool {
-    line.windows(number.len()).any(|window| window == number.as_bytes())
+    line.windows(number.len())
+        .any(|window| window == number.as_bytes())
 }
 
 /// The first sort of damage, in the order of the list, that is found in a line refused with 5.
@@ -86,7 +100,10 @@ fn sort(line: &[u8], whole: bool, columns: &str) -> &'static str {
         "byte above 127"
     } else {
         let sorts = line.chunks(WIDTH).zip(columns.chars());
-        sorts.map(|(column, form)| column_sort(column, form)).find(|sort| *sort != "").unwrap_or("other byte")
+        sorts
+            .map(|(column, form)| column_sort(column, form))
+            .find(|sort| *sort != "")
+            .unwrap_or("other byte")
     }
 }
 

@@ -30,7 +30,9 @@ pub fn time(row: &[Cell]) -> f64 {
 
 /// The columns of a row for which `fits` holds.
 pub fn columns(row: &[Cell], fits: fn(&Cell) -> bool) -> Vec<usize> {
-    (0..row.len()).filter(|&column| fits(&row[column])).collect()
+    (0..row.len())
+        .filter(|&column| fits(&row[column]))
+        .collect()
 }
 
 pub fn is_float(cell: &Cell) -> bool {

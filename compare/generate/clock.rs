@@ -22,7 +22,10 @@ impl Clock {
     }
 
     pub fn at(now: f64) -> Self {
-        Self { now, recent: vec![now] }
+        Self {
+            now,
+            recent: vec![now],
+        }
     }
 
     pub fn move_to(&mut self, time: f64) -> f64 {
@@ -87,30 +90,50 @@ pub fn spans(random: &mut Random, rows: usize) -> Vec<f64> {
     if random.one_in(2) {
         // A last gap that is rounded up makes the sum of the gaps infinite.
         times.retain(|&time| time < 2f64.powi(1022));
-        let mut late = 0.0;
-        while late + (f64::MAX - late) < f64::INFINITY {
-            late = random.range(2f64.powi(1022), 2f64.powi(1023));
-        }
-        times.extend([late, f64::MAX]);
+        times.extend([too_far(random), f64::MAX]);
     }
     times
+}
+
+/// A number so far below the largest float that, with roundings, the way there is too long.
+pub fn too_far(random: &mut Random) -> f64 {
+    loop {
+        let number = random.range(2f64.powi(1022), 2f64.powi(1023));
+        if number + (f64::MAX - number) == f64::INFINITY {
+            return number;
+        }
+    }
 }
 
 /// Rising times: the first within a second after `start`, `rows` uneven ones, then those so many
 /// seconds `before_end`, then the end of a delay that runs from the first. They are chosen, if tries
 /// find such, to have the sum of the gaps and the difference of the times part: one of the two
 /// reaches the delay and the other does not. The nearer to 0, the likelier.
-pub fn parted(random: &mut Random, start: f64, delay: f64, rows: usize, before_end: &[f64]) -> Vec<f64> {
+pub fn parted(
+    random: &mut Random,
+    start: f64,
+    delay: f64,
+    rows: usize,
+    before_end: &[f64],
+) -> Vec<f64> {
     let mut times = Vec::new();
     for _ in 0..1000 {
         let begin = start + random.unit();
         let end = random.beside(begin + delay);
-        let last: Vec<f64> = before_end.iter().map(|before| end - before).chain([end]).collect();
-        times = (0..rows).map(|_| begin + (last[0] - begin) * random.unit()).collect();
+        let last: Vec<f64> = before_end
+            .iter()
+            .map(|before| end - before)
+            .chain([end])
+            .collect();
+        times = (0..rows)
+            .map(|_| begin + (last[0] - begin) * random.unit())
+            .collect();
         times.extend(last);
         times.sort_by(f64::total_cmp);
         times.insert(0, begin);
-        let sum = times.windows(2).fold(0.0, |sum, pair| sum + (pair[1] - pair[0]));
+        let sum = times
+            .windows(2)
+            .fold(0.0, |sum, pair| sum + (pair[1] - pair[0]));
         if (sum >= delay) != (end - begin >= delay) {
             break;
         }

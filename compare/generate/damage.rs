@@ -27,19 +27,31 @@ pub fn damaged_line(random: &mut Random, row: &Row) -> Vec<u8> {
         14 if random.one_in(2) => text = text.repeat(random.between(2, 300)),
         14 => text.extend((0..random.between(400, 70_000)).map(|i| b" 0123456789"[i % 11])),
         15 => text.clear(),
-        16 => text = (0..random.between(1, 600)).map(|_| random.bits() as u8).collect(),
+        16 => {
+            text = (0..random.between(1, 600))
+                .map(|_| random.bits() as u8)
+                .collect()
+        }
         17 => put(&mut text, column, ""),
         18 => {
             // One place to the left.
             text[column * WIDTH..end].rotate_left(1);
             text[end - 1] = b' ';
         }
-        19 => put(&mut text, column, random.pick(&["-", "- 5", "--5", "-01", "5-", "1 2", "1.5", "1e3"])),
+        19 => put(
+            &mut text,
+            column,
+            random.pick(&["-", "- 5", "--5", "-01", "5-", "1 2", "1.5", "1e3"]),
+        ),
         20 => text[end - 1] = random.pick(b"/:aA.,\x0b\xb0\xb1\xff\x7f\x80_"),
         21 => text.insert(random_place(random, row), b'\n'),
         22 => return text,
         23 => text[digits - 1] = random.pick(b"/:x.\xb0\x10\x11\x30"),
-        24 => put(&mut text, column, random.pick(&["NaN", "inf", "true", "0x1", "00", "01"])),
+        24 => put(
+            &mut text,
+            column,
+            random.pick(&["NaN", "inf", "true", "0x1", "00", "01"]),
+        ),
         _ => text[random_place(random, row)] ^= 1 << random.below(8),
     }
     text.push(b'\n');
@@ -73,7 +85,11 @@ pub fn damage_end(random: &mut Random, file: &mut Vec<u8>) {
         4 => file.truncate(random.below(file.len() + 1)),
         5 => file.push(b'\n'),
         6 => file.push(b' '),
-        7 => file.truncate(file.iter().position(|&byte| byte == b'\n').map_or(0, |end| end + 1)),
+        7 => file.truncate(
+            file.iter()
+                .position(|&byte| byte == b'\n')
+                .map_or(0, |end| end + 1),
+        ),
         _ => file.clear(),
     }
 }
@@ -100,7 +116,11 @@ fn float_out_of_range(random: &mut Random, row: &Row, text: &mut [u8]) {
         "100000000000000000000",
         "999999999999999999999",
     ];
-    put(text, random.pick(&columns(row, is_float)), random.pick(&numbers));
+    put(
+        text,
+        random.pick(&columns(row, is_float)),
+        random.pick(&numbers),
+    );
 }
 
 /// The bounds of a signed column, which are taken, and one beyond, in a column of any kind.
@@ -115,16 +135,40 @@ fn integer_bounds(random: &mut Random, row: &Row, text: &mut [u8]) {
         "-99999999999999999999",
     ];
     let signed = columns(row, is_signed);
-    let column = if signed.is_empty() { random.below(row.len()) } else { random.pick(&signed) };
+    let column = if signed.is_empty() {
+        random.below(row.len())
+    } else {
+        random.pick(&signed)
+    };
     put(text, column, random.pick(&numbers));
 }
 
 fn flag_out_of_range(random: &mut Random, row: &Row, text: &mut [u8]) {
-    let numbers = ["2", "3", "9", "10", "11", "-1", "00", "01", "18446744073709551616"];
-    put(text, random.pick(&columns(row, is_flag)), random.pick(&numbers));
+    let numbers = [
+        "2",
+        "3",
+        "9",
+        "10",
+        "11",
+        "-1",
+        "00",
+        "01",
+        "18446744073709551616",
+    ];
+    put(
+        text,
+        random.pick(&columns(row, is_flag)),
+        random.pick(&numbers),
+    );
 }
 
 fn minus_in_unsigned(random: &mut Random, row: &Row, text: &mut [u8]) {
-    let places: Vec<usize> = (0..row.len()).filter(|&place| !is_signed(&row[place])).collect();
-    put(text, random.pick(&places), random.pick(&["-1", "-0", "-4643211215818981376"]));
+    let places: Vec<usize> = (0..row.len())
+        .filter(|&place| !is_signed(&row[place]))
+        .collect();
+    put(
+        text,
+        random.pick(&places),
+        random.pick(&["-1", "-0", "-4643211215818981376"]),
+    );
 }

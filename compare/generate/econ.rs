@@ -4,8 +4,9 @@ use crate::cells::{Cell::*, Row};
 use crate::clock::{Clock, parted, spans};
 use crate::random::{Random, marks};
 
-pub const PLANS: &[fn(&mut Random, Option<usize>) -> Vec<Row>] =
-    &[season, edges, ladder, ladder, uneven, fine_step, overflow, spans_plan];
+pub const PLANS: &[fn(&mut Random, Option<usize>) -> Vec<Row>] = &[
+    season, edges, ladder, ladder, uneven, fine_step, overflow, spans_plan,
+];
 
 const DELAYS: [f64; 3] = [15.0, 180.0, 600.0];
 
@@ -38,7 +39,14 @@ impl Rows {
             1 => self.setpoint = random.unit(),
             2 => {
                 let limits = marks(&[-0.25, 0.25]);
-                let values = [random.range(-0.5, 0.5), random.pick(&limits), 0.0, -0.0, 5e-324, -1.0];
+                let values = [
+                    random.range(-0.5, 0.5),
+                    random.pick(&limits),
+                    0.0,
+                    -0.0,
+                    5e-324,
+                    -1.0,
+                ];
                 self.signal = random.pick(&values);
             }
             3 if random.one_in(3) => self.fan = !self.fan,
@@ -131,7 +139,10 @@ fn ladder(random: &mut Random, rows: Option<usize>) -> Vec<Row> {
         out.push(off, outdoor);
         for delay in [15.0, 180.0] {
             for _ in 0..random.below(3) {
-                out.push(clock.move_to(off + delay * random.range(0.0, 0.999)), outdoor);
+                out.push(
+                    clock.move_to(off + delay * random.range(0.0, 0.999)),
+                    outdoor,
+                );
             }
             out.push(clock.move_to(random.beside(off + delay)), outdoor);
         }

@@ -4,8 +4,9 @@ use crate::cells::{Cell::*, Row};
 use crate::clock::{Clock, parted, spans};
 use crate::random::{Random, marks};
 
-pub const PLANS: &[fn(&mut Random, Option<usize>) -> Vec<Row>] =
-    &[winter, edges, ladder, bands, hour, fine_step, overflow, spans_plan];
+pub const PLANS: &[fn(&mut Random, Option<usize>) -> Vec<Row>] = &[
+    winter, edges, ladder, bands, hour, fine_step, overflow, spans_plan,
+];
 
 const DELAYS: [f64; 3] = [300.0, 900.0, 3600.0];
 
@@ -18,7 +19,12 @@ struct Rows {
 
 impl Rows {
     fn new(random: &mut Random) -> Self {
-        Self { rows: Vec::new(), positions: [(); 7].map(|_| random.unit()), mixed: 300.15, fan: true }
+        Self {
+            rows: Vec::new(),
+            positions: [(); 7].map(|_| random.unit()),
+            mixed: 300.15,
+            fan: true,
+        }
     }
 
     /// Incoming positions, mixed air and fan change now and then.
@@ -28,7 +34,13 @@ impl Rows {
             self.positions[random.below(7)] = random.pick(&values);
         }
         if random.one_in(4) {
-            let values = [300.15, 299.75, 300.5, random.range(299.5, 300.8), random.beside(300.15)];
+            let values = [
+                300.15,
+                299.75,
+                300.5,
+                random.range(299.5, 300.8),
+                random.beside(300.15),
+            ];
             self.mixed = random.pick(&values);
         }
         if random.one_in(10) {
@@ -37,7 +49,15 @@ impl Rows {
     }
 
     fn push(&mut self, time: f64, supply: f64, reset: bool) {
-        let [minimum_position, outdoor, heating, minimum_outdoor, back, speed, cooling] = self.positions;
+        let [
+            minimum_position,
+            outdoor,
+            heating,
+            minimum_outdoor,
+            back,
+            speed,
+            cooling,
+        ] = self.positions;
         self.rows.push(vec![
             Float(time),
             Float(minimum_position),
@@ -104,7 +124,13 @@ fn ladder(random: &mut Random, rows: Option<usize>) -> Vec<Row> {
     let count = rows.unwrap_or(random.between(20, 250));
     while out.rows.len() < count {
         out.wander(random);
-        let runs = [(273.0, 300.0), (276.0, 900.0), (276.0, 300.0), (277.0, 300.0), (281.0, 300.0)];
+        let runs = [
+            (273.0, 300.0),
+            (276.0, 900.0),
+            (276.0, 300.0),
+            (277.0, 300.0),
+            (281.0, 300.0),
+        ];
         let (supply, delay) = random.pick(&runs);
         let begin = clock.step(random.range(0.0, 120.0));
         out.push(begin, supply, false);
@@ -144,17 +170,36 @@ fn bands(random: &mut Random, rows: Option<usize>) -> Vec<Row> {
     let count = rows.unwrap_or(random.between(20, 250));
     while out.rows.len() < count {
         let warm = (280.15, 280.15 - 0.25, 300.0);
-        let cold = [(277.55, 300.0), (276.45, 300.0), (276.45, 900.0), (274.15, 300.0)];
+        let cold = [
+            (277.55, 300.0),
+            (276.45, 300.0),
+            (276.45, 900.0),
+            (274.15, 300.0),
+        ];
         let (level, delay) = random.pick(&cold);
         for (enter, stay, delay) in [(level, level + 0.25, delay), warm] {
             out.wander(random);
-            let inside = |value: f64| if stay > enter { value.next_down() } else { value.next_up() };
-            let first = if random.one_in(4) { random.beside(enter) } else { inside(enter) };
+            let inside = |value: f64| {
+                if stay > enter {
+                    value.next_down()
+                } else {
+                    value.next_up()
+                }
+            };
+            let first = if random.one_in(4) {
+                random.beside(enter)
+            } else {
+                inside(enter)
+            };
             let begin = clock.step(random.range(0.0, 60.0));
             out.push(begin, first, false);
             for _ in 0..random.below(4) {
                 clock.move_to(begin + delay * random.range(0.0, 0.999));
-                let value = if random.one_in(6) { random.beside(stay) } else { inside(stay) };
+                let value = if random.one_in(6) {
+                    random.beside(stay)
+                } else {
+                    inside(stay)
+                };
                 out.push(clock.now, value, false);
             }
             clock.move_to(begin + delay);

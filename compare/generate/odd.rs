@@ -29,8 +29,10 @@ pub fn odd_time(random: &mut Random, row: &Row) -> Row {
 pub fn odd_field(random: &mut Random, row: &Row) -> Row {
     let mut row = row.clone();
     let kinds = [is_float, is_float, is_signed, is_flag];
-    let places: Vec<usize> =
-        columns(&row, random.pick(&kinds)).into_iter().filter(|&column| column != 0).collect();
+    let places: Vec<usize> = columns(&row, random.pick(&kinds))
+        .into_iter()
+        .filter(|&column| column != 0)
+        .collect();
     if places.is_empty() {
         return row;
     }
@@ -69,7 +71,13 @@ pub fn any_size(random: &mut Random, row: &Row) -> Row {
     let places = columns(&row, is_float);
     let place = random.pick(&places[1..]);
     let bits = f64::from_bits(random.bits());
-    let values = [f64::MAX, f64::MIN, 1e300, -1e300, if bits.is_finite() { bits } else { 1e308 }];
+    let values = [
+        f64::MAX,
+        f64::MIN,
+        1e300,
+        -1e300,
+        if bits.is_finite() { bits } else { 1e308 },
+    ];
     row[place] = Cell::Float(random.pick(&values));
     row
 }

@@ -64,5 +64,8 @@ impl Random {
 
 /// Each value with the floats one step below and above it, for values given in rising order.
 pub fn marks(values: &[f64]) -> Vec<f64> {
-    values.iter().flat_map(|&x| [x.next_down(), x, x.next_up()]).collect()
+    values
+        .iter()
+        .flat_map(|&x| [x.next_down(), x, x.next_up()])
+        .collect()
 }

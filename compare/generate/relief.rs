@@ -1,7 +1,7 @@
 //! Plans of relief fan group row files.
 
 use crate::cells::{Cell::*, Row};
-use crate::clock::{Clock, spans};
+use crate::clock::{Clock, spans, too_far};
 use crate::mean::Mean;
 use crate::random::{Random, marks};
 
@@ -22,7 +22,12 @@ struct Rows {
 
 impl Rows {
     fn new() -> Self {
-        Self { rows: Vec::new(), supply: [true; 2], alarm: [0; 4], proof: [false; 4] }
+        Self {
+            rows: Vec::new(),
+            supply: [true; 2],
+            alarm: [0; 4],
+            proof: [false; 4],
+        }
     }
 
     /// Proofs of the first `count` fans, as if the commands had been followed.
@@ -87,7 +92,16 @@ fn day(random: &mut Random, rows: Option<usize>) -> Vec<Row> {
 fn edges(random: &mut Random, rows: Option<usize>) -> Vec<Row> {
     let (low, high) = (0.1, 0.1 + 0.15);
     let targets = marks(&[
-        0.0, 0.005, 0.005 + 0.005, 0.05 - 0.005, 0.05, low, low + 0.005, high - 0.005, high, 1.0,
+        0.0,
+        0.005,
+        0.005 + 0.005,
+        0.05 - 0.005,
+        0.05,
+        low,
+        low + 0.005,
+        high - 0.005,
+        high,
+        1.0,
     ]);
     let mut out = Rows::new();
     let mut mean = Mean::default();
@@ -130,7 +144,11 @@ fn pulses(random: &mut Random, rows: Option<usize>) -> Vec<Row> {
             let inside = begin + delay * random.range(0.0, 0.999);
             out.push(clock.move_to(inside), pressure);
         }
-        let moved = if up { (proven + 1).min(4) } else { proven.saturating_sub(1) };
+        let moved = if up {
+            (proven + 1).min(4)
+        } else {
+            proven.saturating_sub(1)
+        };
         if random.one_in(4) {
             out.wander(random);
         }
@@ -176,7 +194,10 @@ fn echo(random: &mut Random, rows: Option<usize>) -> Vec<Row> {
             out.wander(random);
         }
         for _ in 0..random.between(1, 2) {
-            let pressures = [random.range(-60.0, 80.0), mean.pull(time, random.range(-1.6, -0.4))];
+            let pressures = [
+                random.range(-60.0, 80.0),
+                mean.pull(time, random.range(-1.6, -0.4)),
+            ];
             let pressure = random.pick(&pressures);
             mean.take(time, pressure);
             out.push(time, pressure);
@@ -218,13 +239,33 @@ fn fill(random: &mut Random, rows: Option<usize>) -> Vec<Row> {
 fn overflow(random: &mut Random, rows: Option<usize>) -> Vec<Row> {
     let mut out = Rows::new();
     let mut clock = Clock::start(random);
+    if random.one_in(3) {
+        // Two sums whose difference overflows, though their step did not, and a mean from between.
+        clock = Clock::at(0.0);
+        for (gap, pressure) in [
+            (0.0, 12.0),
+            (1.0, -too_far(random)),
+            (1.0, f64::MAX),
+            (300.0, 12.0),
+            (0.0, 12.0),
+        ] {
+            out.push(clock.step(gap), pressure);
+        }
+    }
     let largest = random.pick(&[1e300, 1e307, f64::MAX]);
     for _ in 0..rows.unwrap_or(random.between(20, 120)) {
         out.wander(random);
         if random.one_in(3) {
             out.prove(random.below(5));
         }
-        let pressures = [18.0, 12.0, largest, -largest, largest / 300.0, random.range(0.0, 40.0)];
+        let pressures = [
+            18.0,
+            12.0,
+            largest,
+            -largest,
+            largest / 300.0,
+            random.range(0.0, 40.0),
+        ];
         let choices = if random.one_in(4) { 6 } else { 2 };
         out.push(clock.now, pressures[random.below(choices)]);
         clock.edge(random, &[2.0, 15.0, 300.0, 420.0]);
@@ -239,7 +280,16 @@ fn spans_plan(random: &mut Random, rows: Option<usize>) -> Vec<Row> {
     let count = rows.unwrap_or(random.between(5, 80));
     for time in spans(random, count) {
         let pull = mean.pull(time, random.range(-1.6, -0.4));
-        let pressures = [18.0, 24.0, 0.0, -0.0, 1e-310, random.range(-20.0, 40.0), pull, pull];
+        let pressures = [
+            18.0,
+            24.0,
+            0.0,
+            -0.0,
+            1e-310,
+            random.range(-20.0, 40.0),
+            pull,
+            pull,
+        ];
         let pressure = random.pick(&pressures);
         mean.take(time, pressure);
         out.wander(random);

@@ -59,7 +59,11 @@ impl Before {
     /// times never fall, so it is not before the place found for the last accepted row.
     fn window_start(&self, time: f64) -> usize {
         let mut from = self.from;
-        while self.different.get(from + 1).is_some_and(|&next| next <= time - 300.0) {
+        while self
+            .different
+            .get(from + 1)
+            .is_some_and(|&next| next <= time - 300.0)
+        {
             from += 1;
         }
         from

@@ -77,7 +77,8 @@ fn unsigned(column: &Column) -> Option<u64> {
     let high = eight_digits(zeros_for_spaces(high, spaces))?;
     let middle = eight_digits(zeros_for_spaces(middle, spaces.saturating_sub(8)))?;
     let low = eight_digits(zeros_for_spaces(low, spaces.saturating_sub(16)))?;
-    high.checked_mul(10_000_000_000_000_000)?.checked_add(middle * 100_000_000 + low)
+    high.checked_mul(10_000_000_000_000_000)?
+        .checked_add(middle * 100_000_000 + low)
 }
 
 const SPACES: u64 = u64::from_le_bytes([b' '; 8]);
@@ -107,7 +108,11 @@ fn eight_digits(text: u64) -> Option<u64> {
 }
 
 pub fn put_float(out: &mut Vec<u8>, value: f64) {
-    put(out, if value.is_nan() { NAN } else { value.to_bits() }, false);
+    put(
+        out,
+        if value.is_nan() { NAN } else { value.to_bits() },
+        false,
+    );
 }
 
 pub fn put_flag(out: &mut Vec<u8>, value: bool) {

@@ -2,7 +2,9 @@
 
 use std::io::{self, Read, Write};
 
-use super::{Inputs, Trace, expected_times, fine_step, freeze_protection_trace, input_row, input_rows};
+use super::{
+    Inputs, Trace, expected_times, fine_step, freeze_protection_trace, input_row, input_rows,
+};
 use crate::acceptance::Before;
 use crate::columns::{Columns, put_flag, put_float, put_signed};
 use crate::input::Input;

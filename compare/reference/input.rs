@@ -16,7 +16,12 @@ pub struct Input<Source> {
 
 impl<Source: Read> Input<Source> {
     pub fn new(source: Source) -> Self {
-        Self { source, buffer: vec![0; SIZE], from: 0, to: 0 }
+        Self {
+            source,
+            buffer: vec![0; SIZE],
+            from: 0,
+            to: 0,
+        }
     }
 
     /// What was read and not yet consumed.

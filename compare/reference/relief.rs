@@ -19,8 +19,18 @@ impl Kind for Relief {
         Some(Inputs {
             supply: [columns.flag()?, columns.flag()?],
             pressure: columns.float()?,
-            alarm: [columns.signed()?, columns.signed()?, columns.signed()?, columns.signed()?],
-            proof: [columns.flag()?, columns.flag()?, columns.flag()?, columns.flag()?],
+            alarm: [
+                columns.signed()?,
+                columns.signed()?,
+                columns.signed()?,
+                columns.signed()?,
+            ],
+            proof: [
+                columns.flag()?,
+                columns.flag()?,
+                columns.flag()?,
+                columns.flag()?,
+            ],
         })
     }
 
