@@ -73,7 +73,10 @@ pub fn count(files: &[&str]) -> Result<Vec<u8>, String> {
         let refused = answers == b"                    6\n";
         any.when("empty file", text.is_empty());
         any.when("first line alone", !refused && rest.is_empty());
-        any.when("6: no newline in the file", refused && end.is_none());
+        any.when(
+            "6: no newline in the file",
+            !text.is_empty() && end.is_none(),
+        );
         any.when("6: another first line", refused && end.is_some());
         let named = |counts: &&mut Counts| first == format!("{}\n", counts.kind).as_bytes();
         if let Some(counts) = kinds.iter_mut().find(named) {

@@ -79,17 +79,15 @@ pub fn damaged_first_line(random: &mut Random, kind: &str) -> Vec<u8> {
 
 /// Damage at the end of a file, or to the file as a whole.
 pub fn damage_end(random: &mut Random, file: &mut Vec<u8>) {
-    match random.below(9) {
+    let first = file.iter().position(|&byte| byte == b'\n').unwrap_or(0);
+    match random.below(10) {
         0..=2 => drop(file.pop()),
         3 => file.extend_from_slice(b"                    0"),
         4 => file.truncate(random.below(file.len() + 1)),
         5 => file.push(b'\n'),
         6 => file.push(b' '),
-        7 => file.truncate(
-            file.iter()
-                .position(|&byte| byte == b'\n')
-                .map_or(0, |end| end + 1),
-        ),
+        7 => file.truncate(first + 1),
+        8 => file.truncate(first),
         _ => file.clear(),
     }
 }
