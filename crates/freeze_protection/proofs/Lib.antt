@@ -1,2 +1,4 @@
--- The fact over the constants' table, and the theorem.
+-- The fact over the constants' table, the blocks' states as readings of the past, and the theorem over whole lists.
 pub mod Nearest
+pub mod Blocks
+pub mod Demand3

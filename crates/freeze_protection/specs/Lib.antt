@@ -5,3 +5,4 @@ pub mod Signals
 pub mod Commands
 pub mod Step
 pub mod Reading
+pub mod Told
