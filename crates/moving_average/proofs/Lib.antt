@@ -1,0 +1,5 @@
+-- The laws that the proofs cite, and the facts about the definitions.
+pub mod Lists
+pub mod Loops
+pub mod Points
+pub mod Held
