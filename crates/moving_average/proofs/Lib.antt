@@ -3,3 +3,5 @@ pub mod Lists
 pub mod Loops
 pub mod Points
 pub mod Held
+pub mod Descending
+pub mod Reading

@@ -27,6 +27,11 @@ integrals-of [] (m ∷ ms) e = absurd (omega arith)
 integrals-of (t ∷ ts) [] e = absurd (omega arith)
 integrals-of (t ∷ ts) (m ∷ ms) e = ap (λ r. m ∷ r) (integrals-of ts ms (omega arith))
 
+pub points-of : (ps : List Point) → zipWith point (map (λ p. p .time) ps) (map (λ p. p .integral) ps) ≡ ps
+unfolding zipWith
+points-of [] = refl
+points-of (p ∷ ps) = ap (λ r. p ∷ r) (points-of ps)
+
 pub first-is : (start : Float) (ts ms : List Float) → length ts ≡ length ms → firstTime start (zipWith point ts ms) ≡ getD ts 0 start
 unfolding zipWith
 first-is start [] ms e = refl

@@ -4,3 +4,4 @@ pub mod Window
 pub mod Integral
 pub mod State
 pub mod Lent
+pub mod Past

@@ -12,7 +12,7 @@ use Rattle.moving_average.proofs.lent.Integrator.is_full.Tie as tie
 returns : tie.Need-returns
 returns c integrals e =
     let s = c .before in
-    sym (full-over (joined (s .args .self) (s .args .times .now) integrals) (s .pre) e (s .args .t) (omega arith))
+    sym (full-over (joined (s .args .self) (s .args .times .now) integrals) (s .args .t) (omega arith))
 
 old-points-requires : tie.Need-old-points-requires
 old-points-requires c κs = search needs
@@ -28,7 +28,7 @@ ends-at-requires c κs = search needs
 returns-2 : tie.Need-returns-2
 returns-2 c integrals e =
     let s = c .before .before .before in
-    rw (full-is (joined (s .args .self) (s .args .times .now) integrals) (s .pre) e (omega arith) (s .args .t), c .before .old-points .ensures, c .ends-at .ensures)
+    rw (full-is (joined (s .args .self) (s .args .times .now) integrals) (record { times = s .pre; integrals = e }) (omega arith) (s .args .t), c .before .old-points .ensures, c .ends-at .ensures)
 
 pub is-full-spec : {M : Type 1} → statement M
 is-full-spec = tie.close (tie.spec returns old-points-requires sub-kept ends-at-requires returns-2)

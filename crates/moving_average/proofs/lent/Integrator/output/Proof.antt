@@ -2,7 +2,7 @@
 use borrow.Author.Needs.{needs}
 use Rattle.moving_average.specs.State.{movingAverageOutput}
 use Rattle.moving_average.specs.Lent.{joined}
-use Rattle.moving_average.proofs.Held.{held-front, held-first}
+use Rattle.moving_average.proofs.Held.{Sized, held-front, held-first}
 use Rattle.moving_average.proofs.lent.Integrator.output.Statement.{statement}
 use Rattle.moving_average.proofs.lent.Integrator.output.Tie as tie
 
@@ -29,11 +29,12 @@ unfolding movingAverageOutput
 returns c =
     let s = c .before .before .before .before .before .before in
     let whole = joined (s .args .self) (s .args .times .now) (s .args .integrals .now) in
+    let sized : Sized whole = record { times = s .pre .0; integrals = s .pre .1 } in
     let n = c .before .before .before .len .result in
     let e = c .before .before .before .len .ensures in
     rw (
-      held-first whole (s .pre .0) (s .pre .1) n e _,
-      held-front whole (s .pre .0) (s .pre .1) n e,
+      held-first whole sized n e _,
+      held-front whole sized n e,
       ← c .before .before .before .before .before .start .ensures,
       ← c .before .before .before .before .mu-now .ensures,
       ← c .before .before .mu-at .ensures,

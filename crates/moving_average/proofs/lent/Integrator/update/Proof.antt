@@ -8,7 +8,7 @@ use Rattle.moving_average.specs.declared.state.MovingAverageState.{Movin
 use Rattle.moving_average.specs.State.{cutoff, movingAverageIsFull, movingAverageUpdate, movingAverageStored}
 use Rattle.moving_average.specs.Lent.{joined}
 use Rattle.moving_average.proofs.Loops.{gone-le}
-use Rattle.moving_average.proofs.Held.{counts, gone, index, room, fit, stored-times, stored-integrals, stored-count}
+use Rattle.moving_average.proofs.Held.{Sized, counts, gone, index, room, fit, next-times, next-integrals, next-count}
 use Rattle.moving_average.proofs.lent.Integrator.update.Statement.{statement}
 use Rattle.moving_average.proofs.lent.Integrator.update.Tie as tie
 
@@ -16,11 +16,14 @@ use Rattle.moving_average.proofs.lent.Integrator.update.Tie as tie
 abbrev whole : tie.Start → MovingAverageState
 whole s = joined (s .args .self) (s .args .times .now) (s .args .integrals .now)
 
+sized : (s : tie.Start) → Sized (whole s)
+sized s = record { times = s .pre .0; integrals = s .pre .1 }
+
 not-full : (c : tie.Else1) → movingAverageIsFull (whole (c .before .before .before)) (c .before .before .before .args .t) ≡ false
 not-full c = let s = c .before .before .before in sym (c .before .is-full .ensures (s .args .integrals .now) (s .pre .1)) ∙ c .if1 .left
 
 small : (c : tie.Else1) → c .before .before .before .args .self .count ≤ 512
-small c = let s = c .before .before .before in counts (whole s) (s .pre .0) (s .pre .1) (s .args .t) (not-full c)
+small c = let s = c .before .before .before in counts (whole s) (s .args .t) (not-full c)
 
 -- what the calls before `put` gave
 record Placed (s : tie.Start) (k j : ℕ) : Type 0 where
@@ -38,8 +41,8 @@ placed c =
     record {
       dropped = k;
       at = j;
-      within = omega (arith, small e, k, j, fit (whole s) (s .pre .0) (s .pre .1) (small e) (s .args .t));
-      below = omega (arith, j, room (whole s) (s .pre .0) (s .pre .1) (small e) (s .args .t) (not-full e));
+      within = omega (arith, small e, k, j, fit (whole s) (sized s) (small e) (s .args .t));
+      below = omega (arith, j, room (whole s) (sized s) (small e) (s .args .t) (not-full e));
     }
 
 is-full-requires : tie.Need-is-full-requires
@@ -97,9 +100,9 @@ returns-2 c =
       not-full e,
       ← d .before .before .before .before .before .mu-now .ensures,
       ← d .before .before .before .before .before .before .start .ensures,
-      stored-times (whole s) (s .pre .0) (s .pre .1) (small e) (s .args .t) mu,
-      stored-integrals (whole s) (s .pre .0) (s .pre .1) (small e) (s .args .t) mu,
-      stored-count (whole s) (s .pre .0) (s .pre .1) (small e) (s .args .t) mu,
+      next-times (whole s) (sized s) (small e) (s .args .t) mu,
+      next-integrals (whole s) (sized s) (small e) (s .args .t) mu,
+      next-count (whole s) (sized s) (small e) (s .args .t) mu,
       ← p .at,
       ← p .dropped,
       c .put2 .ensures,
