@@ -5,3 +5,6 @@ pub mod Points
 pub mod Held
 pub mod Descending
 pub mod Reading
+pub mod SameTime
+pub mod Constants
+pub mod Cases
