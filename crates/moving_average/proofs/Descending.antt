@@ -1,6 +1,5 @@
 -- Lists of times that do not rise, newest first: their part from a limit on, their different times, and dropping, which works from the other end. Assumes nothing.
-use Prim.Native.Nat.{ℕ, suc}
-use mathlib.Core.Path.{_≡_, refl, sym, ap, _∙_}
+use mathlib.Core.Path.{_≡_, refl, ap, _∙_}
 use mathlib.Core.Bool.{Bool, true, false, cond}
 use mathlib.Core.List.{List, [], _∷_, _++_, map, reverse, reverse-cons}
 use lib.Dec.{T}

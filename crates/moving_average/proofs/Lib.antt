@@ -7,4 +7,5 @@ pub mod Descending
 pub mod Reading
 pub mod SameTime
 pub mod Constants
-pub mod Cases
+pub mod FirstRows
+pub mod HalfRows

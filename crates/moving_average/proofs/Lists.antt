@@ -3,7 +3,7 @@ use Prim.Native.Nat.{ℕ, zero, suc, _+_, _-_, _≤_, min}
 use native.Mathlib.Omega.{arith}
 use native.Mathlib.Numerals.{unary-clauses}
 use mathlib.Core.Path.{_≡_, refl, ap, _∙_}
-use mathlib.Core.List.{List, [], _∷_, _++_, map, dropLast, zipWith}
+use mathlib.Core.List.{List, [], _∷_, _++_, map, dropLast}
 use lib.ListN.{length, take, drop}
 use lib.Seq.{take-add, drop-at, length-take-le, take-take}
 

@@ -1,13 +1,13 @@
 -- The start, a turn and the end of each loop over the window's arrays, as laws of lists. Assumes nothing.
 use Prim.Native.Nat.{ℕ, suc, _+_, _<_, _≤_}
-use mathlib.Core.Path.{_≡_, refl, sym, ap, _∙_}
+use mathlib.Core.Path.{_≡_, sym, ap, _∙_}
 use mathlib.Core.Bool.{Bool, true, false, cond}
 use mathlib.Core.List.{List, [], _∷_, _++_, zipWith, append-assoc}
 use native.Mathlib.Nat.{zero-add, add-comm}
 use native.Mathlib.Numerals.{add-one}
 use native.Mathlib.Omega.{arith}
 use lib.ListN.{length, take, drop, getD, set, length-append, length-drop, length-take, drop-of-length-le}
-use lib.Seq.{length-take-le, getD-append-add, getD-drop, paste-suc, set-at, drop-cons, append-snoc, slice, slice-cons, length-slice}
+use lib.Seq.{length-take-le, getD-append-add, getD-drop, paste-suc, set-at, drop-cons, slice, slice-cons, length-slice}
 use lib.Ieee.{Float, nan, le}
 use Rattle.moving_average.specs.Window.{Point, point}
 use Rattle.moving_average.specs.Integral.{onLine, integralAfter, integralAt}

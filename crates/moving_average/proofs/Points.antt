@@ -1,17 +1,16 @@
 -- The window's points beside the arrays that hold them: dropping, the last point and storing, by index. Assumes nothing.
-use Prim.Native.Nat.{ℕ, suc, _+_, _-_, _<_, _≤_}
-use mathlib.Core.Path.{_≡_, refl, sym, ap, _∙_}
-use mathlib.Core.Bool.{Bool, true, false, _&&_, cond}
+use Prim.Native.Nat.{suc, _+_, _-_}
+use mathlib.Core.Path.{_≡_, refl, sym, ap}
+use mathlib.Core.Bool.{Bool, true, false, cond}
 use mathlib.Core.List.{List, [], _∷_, _++_, zipWith, map, dropLast}
 use native.Mathlib.Omega.{arith}
-use lib.ListN.{length, take, drop, getD, length-drop, length-map}
+use lib.ListN.{length, take, drop, getD}
 use lib.Seq.{take-length}
-use lib.Dec.{ltb}
-use lib.Ieee.{Float, nan, le}
-use Rattle.moving_average.specs.Window.{Point, point, sameTime, dropOld, endsAt, store}
+use lib.Ieee.{Float, le}
+use Rattle.moving_average.specs.Window.{Point, point, dropOld, endsAt, store}
 use Rattle.moving_average.specs.State.{firstTime}
 use Rattle.moving_average.specs.Lent.{leading, lastIs, slot}
-use Rattle.moving_average.proofs.Lists.{map-append, map-take, map-drop, drop-last-is, part-of-front}
+use Rattle.moving_average.proofs.Lists.{drop-last-is}
 
 -- ---- the points of two arrays
 pub times-of : (ts ms : List Float) → length ts ≡ length ms → map (λ p. p .time) (zipWith point ts ms) ≡ ts

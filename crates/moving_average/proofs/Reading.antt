@@ -1,25 +1,23 @@
 -- The window of the state that accepted rows lead to, and whether it has room, are read off the times of those rows alone. Assumes nothing.
-use Prim.Native.Nat.{ℕ, zero, suc, _+_, _<_, _≤_}
+use Prim.Native.Nat.{suc, _+_, _≤_}
 use native.Mathlib.Omega.{arith}
-use native.Mathlib.Numerals.{add-one}
 use mathlib.Core.Path.{_≡_, refl, sym, ap, _∙_}
-use mathlib.Core.Bool.{Bool, true, false, not, _&&_, _||_, cond, Bool·beq}
+use mathlib.Core.Bool.{Bool, true, false, not, _&&_, cond}
 use mathlib.Core.List.{List, [], _∷_, _++_, map, reverse, reverse-cons, zipWith}
-use lib.Dec.{T, eqb, ltb}
-use lib.ListN.{length, take, drop, getD, length-map, length-append, length-reverse, length-replicate}
+use lib.Dec.{T}
+use lib.ListN.{length, take, length-map, length-append, length-reverse}
 use lib.Seq.{take-all, take-append-seam, getD-append-seam}
 use lib.Ieee.{Float, nan, inf, fin, le, lt, eq, isNan, ofBits}
 use lib.Ieee.Scale.{finite}
 use lib.Ieee.Fits.{and-l, and-r}
 use borrow.Author.Tests.{le-ltb, not-true}
 use Rattle.reals.specs.Sign.{isSignNegative}
-use Rattle.reals.proofs.Truth.{is-true, is-false, holds, fails, table1}
+use Rattle.reals.proofs.Truth.{is-true, table1}
 use Rattle.reals.proofs.Times.{isTime, minus-mono}
 use Rattle.reals.proofs.FloatOrder.{not-lt→le}
-use Rattle.moving_average.specs.declared.state.MovingAverageState.{MovingAverageState}
 use Rattle.moving_average.specs.Constants.{delta}
 use Rattle.moving_average.specs.Window.{Point, point, sameTime, dropOld, endsAt, store}
-use Rattle.moving_average.specs.State.{held, written, cutoff, muNow, movingAverageIsFull, movingAverageStored, movingAverageUpdate, movingAverageNew}
+use Rattle.moving_average.specs.State.{held, cutoff, muNow, movingAverageIsFull, movingAverageStored, movingAverageUpdate, movingAverageNew}
 use Rattle.moving_average.specs.Lent.{lastIs, slot}
 use Rattle.moving_average.specs.Past.{from, different, differentBefore, windowTimes, lastTimeIs, windowIsFull, belowLast, timeAccepted, accepted, movingAverageOf}
 use Rattle.moving_average.proofs.Lists.{map-append, map-take}

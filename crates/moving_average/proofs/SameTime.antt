@@ -1,13 +1,13 @@
 -- Two numbers of binary64 are the same time exactly where they have one 64-bit pattern, as the Rust's `store` asks. A NaN has no one pattern. Assumes nothing.
 use Prim.Native.Nat.{_*_}
 use mathlib.Core.Path.{_≡_, refl, sym, ap, _∙_}
-use mathlib.Core.Bool.{Bool, true, false, _&&_, _||_, Bool·beq}
+use mathlib.Core.Bool.{Bool, true, false, _||_, Bool·beq}
 use lib.Dec.{T, eqb, eqb→eq, eqb-refl}
 use lib.Ieee.{Float, nan, inf, fin, binary64, up, down, eq, fits, isNan, toBits, ofBits}
 use lib.Ieee.Bits.{ofBits-toBits}
 use lib.Ieee.Fits.{down-pos, and-i, and-l, and-r}
 use Rattle.reals.specs.Sign.{isSignNegative}
-use Rattle.reals.proofs.Truth.{same, holds}
+use Rattle.reals.proofs.Truth.{same}
 use Rattle.reals.proofs.Round.{value-unique}
 use Rattle.reals.proofs.FloatOrder.{self-equal}
 use Rattle.moving_average.specs.Window.{sameTime}

@@ -1,6 +1,5 @@
 -- The window read off the rows before, without state (document 01, 'The past, read without state'). A past is the list of the accepted rows before, or of their
 -- times, newest first.
-use Prim.Native.Nat.{ℕ}
 use mathlib.Core.Bool.{Bool, true, false, not, _&&_, cond}
 use mathlib.Core.List.{List, [], _∷_}
 use lib.Dec.{eqb}

@@ -1,6 +1,5 @@
 -- CDL.Reals.MovingAverage with delta = 300 s, sampled at the rows: `MovingAverageState` of relief_fan_group.rs. The window's points stand in two arrays of 512
 -- with a count (document 01, 'What changes shape').
-use Prim.Native.Nat.{ℕ}
 use mathlib.Core.Bool.{Bool, not, _&&_, _||_, cond}
 use mathlib.Core.List.{List, [], _∷_, _++_, map, zipWith}
 use lib.Dec.{eqb, ltb}

@@ -1,6 +1,6 @@
 -- The window of a sampled CDL.Reals.MovingAverage: the integral of the input at the times of past rows, oldest first, as `prune` and `store` of
 -- relief_fan_group.rs keep it.
-use mathlib.Core.Bool.{Bool, true, false, _&&_, Bool·beq, cond}
+use mathlib.Core.Bool.{Bool, false, _&&_, Bool·beq, cond}
 use mathlib.Core.List.{List, [], _∷_, _++_, dropLast}
 use lib.Ieee.{Float, le, eq}
 use Rattle.reals.specs.Sign.{isSignNegative}

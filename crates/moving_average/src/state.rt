@@ -56,19 +56,16 @@ impl MovingAverageState {
     pub fn output(self, t: f64, input: f64) -> f64
         ensures { λ r. ⌜ r ≡ movingAverageOutput self t input ⌝ }
     {
-        let times = self.times;
-        let integrals = self.integrals;
         let s = self.integrator();
-        s.output(&times, &integrals, t, input)
+        s.output(&self.times, &self.integrals, t, input)
     }
 
     // Whether the window has no room for a row at t: refusal 4.
     pub fn is_full(self, t: f64) -> bool
         ensures { λ r. ⌜ r ≡ movingAverageIsFull self t ⌝ }
     {
-        let times = self.times;
         let s = self.integrator();
-        s.is_full(&times, t)
+        s.is_full(&self.times, t)
     }
 
     // The state after a row; where the window is full, the state as it was.

@@ -5,7 +5,7 @@ use mathlib.Core.Path.{_≡_, _∙_}
 use mathlib.Core.List.{[], _∷_, _++_, zipWith}
 use lib.ListN.{take}
 use lib.Seq.{slice}
-use Rattle.moving_average.specs.Window.{Point, point}
+use Rattle.moving_average.specs.Window.{point}
 use Rattle.moving_average.specs.Integral.{integralAt, integralAfter}
 use Rattle.moving_average.proofs.Loops.{search-start, search-turn, search-end}
 use Rattle.moving_average.proofs.integral.mu_at.Statement.{statement}

@@ -1,6 +1,6 @@
 -- `Integrator::is_full` meets its contract: it asks after dropping, and for more than 512 points before. Assumes nothing.
 use native.Mathlib.Omega.{arith}
-use mathlib.Core.Path.{_≡_, sym, _∙_}
+use mathlib.Core.Path.{sym}
 use borrow.Author.Needs.{needs}
 use Rattle.moving_average.specs.State.{cutoff}
 use Rattle.moving_average.specs.Lent.{joined}

@@ -1,5 +1,4 @@
 -- `Integrator::start` meets its contract, by its one test. Assumes nothing.
-use mathlib.Core.Path.{sym, _∙_}
 use borrow.Author.Needs.{needs}
 use Rattle.moving_average.specs.State.{startTime}
 use Rattle.moving_average.proofs.lent.Integrator.start.Statement.{statement}

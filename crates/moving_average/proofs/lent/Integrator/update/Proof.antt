@@ -1,7 +1,7 @@
 -- `Integrator::update` meets its contract: where there is room, the index of the new point is in range, and both arrays are written alike. Assumes nothing.
 use Prim.Native.Nat.{ℕ, _+_, _<_, _≤_}
 use native.Mathlib.Omega.{arith}
-use mathlib.Core.Path.{_≡_, refl, sym, _∙_}
+use mathlib.Core.Path.{_≡_, sym, _∙_}
 use mathlib.Core.Bool.{false}
 use borrow.Author.Needs.{needs}
 use Rattle.moving_average.specs.declared.state.MovingAverageState.{MovingAverageState}

@@ -10,7 +10,7 @@ is-full-requires : tie.Need-is-full-requires
 is-full-requires c κs = search needs
 
 returns : tie.Need-returns
-returns c = let s = c .before .before .before .before in rw (← c .before .before .integrator .ensures) (c .is-full .ensures (s .args .self .integrals) (search needs))
+returns c = rw (← c .before .before .before .integrator .ensures) (c .is-full .ensures (c .before .before .before .before .args .t1 .integrals) (search needs))
 
 pub is-full-spec : {M : Type 1} → statement M
 is-full-spec = tie.close (tie.spec integrator-requires is-full-requires returns)

@@ -10,7 +10,7 @@ output-requires : tie.Need-output-requires
 output-requires c κs = search needs
 
 returns : tie.Need-returns
-returns c = rw (← c .before .before .before .integrator .ensures) (c .output .ensures)
+returns c = rw (← c .before .before .before .before .integrator .ensures) (c .output .ensures)
 
 pub output-spec : {M : Type 1} → statement M
 output-spec = tie.close (tie.spec integrator-requires output-requires returns)
