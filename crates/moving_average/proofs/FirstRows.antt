@@ -84,7 +84,7 @@ unfolding ofBits
 zero-finite = tt
 
 pub first-mean : (t u : Float) → T (finite t) → T (finite u) → movingAverageOutput movingAverageNew t u ≡ plusZero
-unfolding movingAverageOutput movingAverageNew startTime muNow seenNever seenElapsed held zipWith integralAt
+unfolding movingAverageOutput movingAverageNew startTime muNow seenNever seenElapsed held zipWith dropOld integralAt
 first-mean t u a b = rw (first-mu u b, self-gap plusZero zero-finite) (zero-quotient (averagedTime t t t) (first-above t a))
 
 -- ---- R2: second row, 15 s later, pressure 18

@@ -2,19 +2,18 @@
 use Prim.Native.Nat.{ℕ, zero, suc, _<_, _≤_}
 use native.Mathlib.Omega.{arith}
 use mathlib.Core.Path.{_≡_, refl, ap₂, _∙_}
-use mathlib.Core.Bool.{Bool, true, false, not, _&&_, cond}
+use mathlib.Core.Bool.{Bool, true, false, _&&_, cond}
 use mathlib.Core.List.{List, [], _∷_, map}
 use lib.Dec.{T}
 use lib.ListN.{length}
 use lib.Ieee.{Float, binary64, add, sub, sum, neg, le, lt, eq, round, ofBits}
-use lib.Ieee.Fits.{and-i, and-l, and-r}
+use lib.Ieee.Fits.{and-l, and-r}
 use borrow.Author.Tests.{ne-eqb}
 use Rattle.reals.specs.Sign.{isSignNegative}
 use Rattle.moving_average.specs.State.{cutoff, movingAverageIsFull}
 use Rattle.moving_average.specs.Past.{from, different, differentBefore, windowTimes, timeAccepted, windowIsFull, accepted, movingAverageOf}
+use Rattle.moving_average.proofs.Accepted.{accepted-cons}
 use Rattle.moving_average.proofs.Reading.{is-full-reads}
-
--- ---- R5: rows each 0.5 s from 0
 
 -- fewer than 512 rows leave room for one more
 from-length : (c : Float) (h : List Float) → length (from c h) ≤ length h
@@ -53,8 +52,7 @@ few-accepted : (h : List Float) → length h ≤ 512 → T (timesAccepted h) →
 unfolding timesAccepted accepted
 few-accepted [] l a = tt
 few-accepted (t ∷ h) l a =
-    and-i (timeAccepted h t) (not (windowIsFull h t) && accepted h) (and-l (timeAccepted h t) (timesAccepted h) a)
-    (rw (few h t (omega arith)) (few-accepted h (omega arith) (and-r (timeAccepted h t) (timesAccepted h) a)))
+    accepted-cons t h (and-l (timeAccepted h t) (timesAccepted h) a) (few h t (omega arith)) (few-accepted h (omega arith) (and-r (timeAccepted h t) (timesAccepted h) a))
 
 -- n half seconds, and the first n of them from 0 on, newest first
 abbrev pub halfSeconds : ℕ → Float

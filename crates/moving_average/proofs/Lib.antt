@@ -4,6 +4,7 @@ pub mod Loops
 pub mod Points
 pub mod Held
 pub mod Descending
+pub mod Accepted
 pub mod Reading
 pub mod SameTime
 pub mod Constants

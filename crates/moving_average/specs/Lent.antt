@@ -1,4 +1,4 @@
--- Words for the helpers that work on the window's arrays where they stand, lent by reference.
+-- Words for the helpers that work on the window's arrays where they stand, lent by reference. No public operation of state.rt is promised in these words.
 use Prim.Native.Nat.{ℕ, zero, suc}
 use mathlib.Core.Bool.{Bool, false, cond}
 use mathlib.Core.List.{List, [], _∷_}
@@ -13,7 +13,7 @@ abbrev pub joined : Integrator → List Float → List Float → MovingAverageSt
 joined s times integrals =
     record { «t_start» = s .«t_start»; «prev_t» = s .«prev_t»; mu = s .mu; times = times; integrals = integrals; count = s .count }
 
--- how many of the times, from the first on, are at or before the cutoff. Of the second point's time and those after it: as many points are dropped.
+-- how many of the times, from the first on, are at or before the cutoff. Asked of the times from the second point on, it is how many points are dropped.
 unfoldable pub leading : Float → List Float → ℕ
 leading cutoff [] = 0
 leading cutoff (t ∷ ts) = cond (le t cutoff) (suc (leading cutoff ts)) 0

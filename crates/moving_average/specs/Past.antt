@@ -18,11 +18,12 @@ unfoldable pub from : Float → List Float → List Float
 from limit [] = []
 from limit (t ∷ h) = cond (le t limit) (t ∷ []) (t ∷ from limit h)
 
--- One for each different time. Equal times stand side by side, since none is below the one before: a time is listed where the next later one differs from it.
+-- of times before `later`: those that differ from the next later one
 unfoldable pub differentBefore : Float → List Float → List Float
 differentBefore later [] = []
 differentBefore later (t ∷ h) = cond (eq t later) (differentBefore t h) (t ∷ differentBefore t h)
 
+-- one for each different time; equal ones stand side by side, since no accepted time is below the one before
 unfoldable pub different : List Float → List Float
 different [] = []
 different (t ∷ h) = t ∷ differentBefore t h
@@ -47,17 +48,17 @@ abbrev pub belowLast : List Float → Float → Bool
 belowLast [] t = false
 belowLast (p ∷ h) t = lt t p
 
--- refusals 1 to 3 leave the time: it is finite with the sign bit clear, and not below the last accepted one
+-- what refusals 1 to 3 ask of the time: it is finite, its sign bit is clear, and it is not below the last accepted time
 abbrev pub timeAccepted : List Float → Float → Bool
 timeAccepted h t = (finite t && not (isSignNegative t)) && not (belowLast h t)
 
--- each row of the past was accepted
+-- each row of the past was accepted, as far as its time tells
 unfoldable pub accepted : List Float → Bool
 accepted [] = true
 accepted (t ∷ h) = timeAccepted h t && (not (windowIsFull h t) && accepted h)
 
--- ---- the state that a past leads to, from a fresh one; R are rows with a time and an input
 module _ {R : Type 0} (time input : R → Float) where
+  -- the state that the rows of a past lead to from a fresh one, by their times and inputs
   unfoldable pub movingAverageOf : List R → MovingAverageState
   movingAverageOf [] = movingAverageNew
   movingAverageOf (r ∷ h) = movingAverageUpdate (movingAverageOf h) (time r) (input r)

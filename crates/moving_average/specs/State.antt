@@ -17,11 +17,11 @@ use Rattle.moving_average.specs.Integral.{integralAt}
 
 -- ---- the arrays
 
--- the points in the first `count` entries, oldest first. Where the count is above 512, which no row leaves, they are all 512 entries.
+-- the window: the points in the first `count` entries, oldest first. Where the count is above 512, which no row leaves, all 512 entries are points.
 unfoldable pub held : MovingAverageState → List Point
 held s = zipWith point (take (s .count) (s .times)) (take (s .count) (s .integrals))
 
--- an array with new entries at its front; the entries past them stay as they were
+-- an array with new entries at its front; the entries past them are kept as they were
 unfoldable pub written : List Float → List Float → List Float
 written new old = new ++ drop (length new) old
 
@@ -35,7 +35,7 @@ startTime prev start t = cond (seenNever prev) t start
 unfoldable pub muNow : Seen → Float → Float → Float → Float
 muNow prev mu t input = add binary64 mu (mul binary64 input (seenElapsed prev t))
 
--- points at or before this time are old
+-- delta before t: where the averaged time begins, and old points end
 abbrev pub cutoff : Float → Float
 cutoff t = sub binary64 t delta
 
@@ -44,7 +44,7 @@ abbrev pub firstTime : Float → List Point → Float
 firstTime start [] = start
 firstTime start (p ∷ ps) = p .time
 
--- How long the averaged time is, `denom` of the Rust's `output`. From delta after the start on it begins at the latest of cutoff, first point and start; before that at
+-- How long the averaged time is: `denom` of the Rust's `output`. From delta after the start on, it begins at the latest of cutoff, first point and start; before that at
 -- the start, and startOffset is added.
 unfoldable pub averagedTime : Float → Float → Float → Float
 averagedTime start first t =
@@ -52,7 +52,7 @@ averagedTime start first t =
     (greater (sub binary64 t (greater (greater (cutoff t) first) start)) minDelta)
     (add binary64 (sub binary64 t start) startOffset)
 
--- the mean of the input over the last 300 s, worked before old points are dropped
+-- the mean of the input over the last 300 s, by the window before old points are dropped: (mu - muDel) / denom
 unfoldable pub movingAverageOutput : MovingAverageState → Float → Float → Float
 movingAverageOutput s t input =
     let start = startTime (s .«prev_t») (s .«t_start») t in
@@ -81,7 +81,7 @@ movingAverageStored s t input =
       count = length window;
     }
 
--- a full window takes no point: the state stays as it is, and the row is refused
+-- A full window takes no point: the state stays as it is. (The Rust's list of points has no limit; here refusal 4 keeps such a row out.)
 unfoldable pub movingAverageUpdate : MovingAverageState → Float → Float → MovingAverageState
 movingAverageUpdate s t input = cond (movingAverageIsFull s t) s (movingAverageStored s t input)
 
