@@ -7,9 +7,9 @@ use lib.Ieee.{Float, nan, inf, fin, le, lt, eq, isNan, ofBits}
 use lib.Ieee.Scale.{finite}
 use lib.Ieee.Fits.{and-i, and-l, and-r}
 use borrow.Author.Tests.{not-true}
-use Rattle.reals.specs.Sign.{isSignNegative}
+use Rattle.reals.specs.Sign.{isSignNegative, isTime}
 use Rattle.reals.proofs.Truth.{is-true, table1}
-use Rattle.reals.proofs.Times.{isTime, minus-mono}
+use Rattle.reals.proofs.Times.{minus-mono}
 use Rattle.reals.proofs.FloatOrder.{not-lt→le}
 use Rattle.moving_average.specs.Constants.{delta}
 use Rattle.moving_average.specs.Window.{sameTime}

@@ -14,6 +14,7 @@ use Rattle.reals.specs.Constants.{plusZero}
 use Rattle.reals.specs.Order.{greater}
 use Rattle.reals.specs.Seen.{seenNever, seenElapsed}
 use Rattle.reals.specs.Sign.{isSignNegative}
+use Rattle.reals.specs.Switch.{switch}
 use Rattle.reals.proofs.FloatOrder.{lt-le, not-lt→le}
 use Rattle.reals.proofs.Round.{zero-is, neg-round, zero-rounds}
 use Rattle.reals.proofs.Times.{self-gap}
@@ -63,7 +64,7 @@ unfolding isNan ofBits
 least-number = refl
 
 at-least : (x : Float) → T (lt plusZero (greater x minDelta))
-unfolding greater
+unfolding greater switch
 at-least x = go (isNan x) (lt x minDelta) refl refl
   where
     go : (n l : Bool) → isNan x ≡ n → lt x minDelta ≡ l → T (lt plusZero (cond n minDelta (cond l minDelta x)))
