@@ -49,21 +49,21 @@ pub holding-none : holding [] ≡ false
 unfolding holding
 holding-none = hold-none timeOfRow hour plusZero (passedFor fiveMinutes (cold coldStage2))
 
-hour-none : passedFor hour holding [] ≡ false
+pub hour-none : passedFor hour holding [] ≡ false
 hour-none = passed-none timeOfRow holding holding-none hour
 
-warm-passed-none : passedFor fiveMinutes warm [] ≡ false
+pub warm-passed-none : passedFor fiveMinutes warm [] ≡ false
 warm-passed-none = passed-none timeOfRow warm warm-none fiveMinutes
 
 end-none : endOfHour [] ≡ false
 unfolding endOfHour rises
 end-none = rw hour-none refl
 
-call1-none : stage1Call [] ≡ false
+pub call1-none : stage1Call [] ≡ false
 unfolding stage1Call
 call1-none = rw (passed-none timeOfRow (cold coldStage1) (cold-none coldStage1) fiveMinutes, end-none) refl
 
-call3-none : stage3Call [] ≡ false
+pub call3-none : stage3Call [] ≡ false
 unfolding stage3Call
 call3-none = rw (passed-none timeOfRow (cold coldStage2) (cold-none coldStage2) fifteenMinutes, passed-none timeOfRow (cold coldStage3) (cold-none coldStage3) fiveMinutes) refl
 
