@@ -30,7 +30,6 @@ module _ {A : Type 0} where
   -- a part of a front is a part of the whole
   pub part-of-front : (j k n : ℕ) (l : List A) → k + j ≤ n → n ≤ length l → take j (drop k (take n l)) ≡ take j (drop k l)
   part-of-front j k n l h g =
-      let m = n - k in
       let e : n ≡ k + (n - k) = omega arith in
       ap (λ (i : ℕ). take j (drop k (take i l))) e
       ∙ rw (take-add k (n - k) l, drop-at (take k l) (take (n - k) (drop k l)) k (length-take-le k l (omega arith)), take-take j (n - k) (drop k l) (omega arith))

@@ -73,7 +73,7 @@ module _ (t : Float) (now : Point) (ts ms : List Float) (n : ℕ) (lt : n ≤ le
   abbrev pub pointAt : ℕ → Point
   pointAt i = point (getD ts i nan) (getD ms i nan)
 
-  pub points-cons : (i : ℕ) → i < n → pointsFrom i ≡ pointAt i ∷ pointsFrom (i + 1)
+  points-cons : (i : ℕ) → i < n → pointsFrom i ≡ pointAt i ∷ pointsFrom (i + 1)
   unfolding zipWith
   points-cons i h = rw (slice-cons i n ts nan h lt, slice-cons i n ms nan h lm, add-one)
 

@@ -1,5 +1,5 @@
 -- The window's points beside the arrays that hold them: dropping, the last point and storing, by index. Assumes nothing.
-use Prim.Native.Nat.{suc, _+_, _-_}
+use Prim.Native.Nat.{suc}
 use mathlib.Core.Path.{_≡_, refl, sym, ap}
 use mathlib.Core.Bool.{Bool, true, false, cond}
 use mathlib.Core.List.{List, [], _∷_, _++_, zipWith, map, dropLast}

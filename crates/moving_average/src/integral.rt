@@ -1,6 +1,6 @@
-// The integral of the input at a past time, over the window's arrays, lent.
+// `mu_at` of relief_fan_group.rs: the integral of the input at a past time, over the window's arrays, which are lent.
 ghost use mathlib.Core.Path.{_≡_};
-ghost use Prim.Native.Nat.{_+_, _≤_, _<_};
+ghost use Prim.Native.Nat.{_≤_};
 ghost use mathlib.Core.List.{zipWith};
 ghost use lib.ListN.{length, take};
 ghost use Rattle.moving_average.specs.Window.{point};

@@ -25,8 +25,8 @@ impl MovingAverageState {
     // What is added to the time since the start while that is below DELTA.
     pub const START_OFFSET: f64 = 1e-3;
 
-    // The state without its arrays.
-    fn integrator(self) -> Integrator
+    // The state without its arrays, which can then be lent beside it.
+    pub fn integrator(self) -> Integrator
         ensures { λ r. ⌜ joined r (self .times) (self .integrals) ≡ self ⌝ }
     {
         let prev = self.prev_t;

@@ -1,4 +1,4 @@
-// The window's points in two arrays that are lent: dropping and storing.
+// `prune` and `store` of relief_fan_group.rs, by index into the window's arrays, which are lent.
 ghost use mathlib.Core.Path.{_≡_};
 ghost use Prim.Native.Nat.{_+_, _≤_, _<_};
 ghost use mathlib.Core.List.{[], _∷_, _++_};
@@ -9,7 +9,7 @@ ghost use Rattle.moving_average.specs.State.{written};
 ghost use Rattle.moving_average.specs.Lent.{leading, lastIs, slot};
 use reals::sign::is_sign_negative;
 
-// Whether two times are the same, as the Rust asks by `to_bits`.
+// Whether two times are the same: equal, with equal sign bits. So numbers of one 64-bit pattern are, as the Rust asks by `to_bits`; a NaN is the same as no time.
 pub fn same_time(a: f64, b: f64) -> bool
     ensures { λ r. ⌜ r ≡ sameTime a b ⌝ }
 {
