@@ -1,0 +1,2 @@
+-- The constants beside their decimals.
+pub mod Constants
