@@ -1,2 +1,3 @@
--- The constants beside their decimals.
+-- The constants beside their decimals, and demand 3.
 pub mod Constants
+pub mod Demand3

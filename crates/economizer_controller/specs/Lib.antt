@@ -7,3 +7,4 @@ pub mod Enable
 pub mod Relief
 pub mod Step
 pub mod Reading
+pub mod Told
