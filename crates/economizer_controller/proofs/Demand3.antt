@@ -13,10 +13,10 @@ use Rattle.reals.specs.Constants.{plusZero}
 use Rattle.reals.specs.Order.{greater}
 use Rattle.reals.specs.Switch.{switch}
 use Rattle.reals.specs.declared.pid_with_reset.PidWithResetState.{PidWithResetState}
-use Rattle.reals.specs.Hysteresis.{hysteresisNew, hysteresisOutput, hysteresisUpdate}
+use Rattle.reals.specs.Hysteresis.{hysteresisOutput}
 use Rattle.reals.specs.Pid.{pidWithResetNew, pidWithResetUpdate}
-use Rattle.logical.specs.TrueFalseHold.{trueFalseHoldNew, trueFalseHoldOutput, trueFalseHoldUpdate}
-use Rattle.logical.specs.TrueDelay.{trueDelayNew, trueDelayOutput, trueDelayUpdate}
+use Rattle.logical.specs.TrueFalseHold.{trueFalseHoldOutput}
+use Rattle.logical.specs.TrueDelay.{trueDelayOutput}
 use Rattle.refusals.specs.declared.Verdict.{Verdict}
 use Rattle.refusals.specs.declared.Verdict.the-variants.{Accepted, Refused}
 use Rattle.past.specs.Acceptance.{lastTime}
@@ -29,7 +29,6 @@ use Rattle.past.proofs.Whole.{readNewest, read-at}
 use Rattle.past.proofs.Sequence.{sequence-reads}
 use Rattle.economizer_controller.specs.declared.types.EconomizerRow.{EconomizerRow}
 use Rattle.economizer_controller.specs.declared.types.EconomizerState.{EconomizerState}
-use Rattle.economizer_controller.specs.declared.types.EconomizerSignals.{EconomizerSignals}
 use Rattle.economizer_controller.specs.declared.types.EnableSignals.{EnableSignals}
 use Rattle.economizer_controller.specs.declared.enable.EnableState.{EnableState}
 use Rattle.economizer_controller.specs.Constants.{outdoorAirCutoff, holdDuration, outdoorDelay, returnDelay}

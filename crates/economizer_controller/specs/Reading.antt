@@ -58,10 +58,10 @@ returnDelayDone h = delayed timeOfRow returnDelay notEnabled h
 
 -- ---- what demand 3 speaks of
 pub record EconomizerReading : Type 0 where
-  pub enable : Bool
-  pub outdoorDelay : Bool
-  pub returnDelay : Bool
+  pub enabled : Bool
+  pub outdoorDelayed : Bool
+  pub returnDelayed : Bool
 
 -- read off a past
 unfoldable pub economizerReading : Past → EconomizerReading
-economizerReading h = record { enable = isEnabled h; outdoorDelay = outdoorDelayDone h; returnDelay = returnDelayDone h }
+economizerReading h = record { enabled = isEnabled h; outdoorDelayed = outdoorDelayDone h; returnDelayed = returnDelayDone h }

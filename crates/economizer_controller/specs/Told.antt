@@ -21,7 +21,7 @@ answerFrom row (Taken signals) = Answer.Commands (economizerCommands row signals
 
 -- enable and delays as they stand in a row's signals
 abbrev pub readingIn : EconomizerSignals → EconomizerReading
-readingIn signals = record { enable = signals .enable .enabled; outdoorDelay = signals .enable .«outdoor_delay_done»; returnDelay = signals .enable .«return_delay_done» }
+readingIn signals = record { enabled = signals .enable .enabled; outdoorDelayed = signals .enable .«outdoor_delay_done»; returnDelayed = signals .enable .«return_delay_done» }
 
 -- what these tell
 abbrev pub readingFrom : Told EconomizerSignals → Told EconomizerReading

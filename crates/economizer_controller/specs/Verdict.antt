@@ -1,6 +1,6 @@
 -- What an economizer row is refused for (document 01, 'What each row refuses').
 use mathlib.Core.Bool.{Bool}
-use mathlib.Core.List.{List, [], _∷_}
+use mathlib.Core.List.{[], _∷_}
 use Rattle.refusals.specs.declared.Verdict.{Verdict}
 use Rattle.refusals.specs.Refusals.{allFinite, judge}
 use Rattle.economizer_controller.specs.declared.types.EconomizerRow.{EconomizerRow}

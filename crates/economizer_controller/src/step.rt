@@ -37,11 +37,10 @@ pub fn economizer_signals(state: EconomizerState, row: EconomizerRow) -> Economi
 {
     let minimum_outdoor_air_loop = state.minimum_outdoor_air_loop;
     let enable_state = state.enable;
+    let setpoint = row.minimum_outdoor_airflow_setpoint_normalized;
+    let airflow = row.outdoor_airflow_normalized;
     let fan = row.supply_fan_status;
-    let loop_signal = minimum_outdoor_air_loop.output(
-        row.minimum_outdoor_airflow_setpoint_normalized,
-        row.outdoor_airflow_normalized,
-    );
+    let loop_signal = minimum_outdoor_air_loop.output(setpoint, airflow);
     let loop_enabled = minimum_outdoor_air_loop_enabled(fan, row.operation_mode);
     let limits = damper_limits(loop_signal, loop_enabled);
     let enable = enable_state.output(
@@ -88,12 +87,10 @@ pub fn economizer_next(
     let minimum_outdoor_air_loop = state.minimum_outdoor_air_loop;
     let enable_state = state.enable;
     let enable = signals.enable;
-    let next_loop = minimum_outdoor_air_loop.update(
-        t,
-        row.minimum_outdoor_airflow_setpoint_normalized,
-        row.outdoor_airflow_normalized,
-        row.supply_fan_status,
-    );
+    let setpoint = row.minimum_outdoor_airflow_setpoint_normalized;
+    let airflow = row.outdoor_airflow_normalized;
+    let fan = row.supply_fan_status;
+    let next_loop = minimum_outdoor_air_loop.update(t, setpoint, airflow, fan);
     let next_enable = enable_state.update(t, enable);
     EconomizerState {
         last: Seen::At(t),

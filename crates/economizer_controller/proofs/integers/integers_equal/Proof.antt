@@ -1,9 +1,8 @@
 -- `integers_equal` meets its contract: two words are equal exactly where the numbers that they stand for are. Assumes nothing.
 use mathlib.Core.Path.{_≡_, refl}
-use mathlib.Core.Bool.{Bool}
 use native.Mathlib.Omega.{arith}
-use Prim.Native.Nat.{ℕ, suc, _-_, _<_, _^_}
-use lib.Dec.{T, eqb, eqb→eq}
+use Prim.Native.Nat.{suc, _-_, _<_, _^_}
+use lib.Dec.{eqb, eqb→eq}
 use lib.Ieee.Fits.{eq→eqb}
 use lib.IntN.{ℤ, pos, negsuc}
 use mir.Syntax.{w64}
