@@ -6,7 +6,7 @@ use mathlib.Core.Bool.{false}
 use mathlib.Core.List.{List, [], _∷_, reverse}
 use lib.Dec.{T}
 use lib.ListN.{length, getD, take}
-use lib.Ieee.{ofBits, le, lt, isNan}
+use lib.Ieee.{Float, ofBits, le, lt, isNan}
 use lib.Ieee.Scale.{finite}
 use lib.Ieee.Fits.{and-l}
 use Rattle.reals.specs.Constants.{plusZero}
@@ -15,8 +15,9 @@ use Rattle.reals.specs.Switch.{switch}
 use Rattle.reals.specs.declared.pid_with_reset.PidWithResetState.{PidWithResetState}
 use Rattle.reals.specs.Hysteresis.{hysteresisOutput}
 use Rattle.reals.specs.Pid.{pidWithResetNew, pidWithResetUpdate}
+use Rattle.logical.specs.declared.true_delay.TrueDelayState.{TrueDelayState}
 use Rattle.logical.specs.TrueFalseHold.{trueFalseHoldOutput}
-use Rattle.logical.specs.TrueDelay.{trueDelayOutput}
+use Rattle.logical.specs.TrueDelay.{trueDelayNew, trueDelayOutput, trueDelayUpdate}
 use Rattle.refusals.specs.declared.Verdict.{Verdict}
 use Rattle.refusals.specs.declared.Verdict.the-variants.{Accepted, Refused}
 use Rattle.past.specs.Acceptance.{lastTime}
@@ -44,8 +45,7 @@ use Rattle.economizer_controller.specs.Reading.{
   held,
   isEnabled,
   notEnabled,
-  outdoorDelayDone,
-  returnDelayDone,
+  delayDone,
   EconomizerReading,
   economizerReading,
 }
@@ -73,16 +73,22 @@ abbrev loopUpdate : PidWithResetState → Past → PidWithResetState
 loopUpdate s [] = s
 loopUpdate s (x ∷ h) = pidWithResetUpdate s (x .time) (x .«minimum_outdoor_airflow_setpoint_normalized») (x .«outdoor_airflow_normalized») (x .«supply_fan_status»)
 
+abbrev delayOf : (n : Float) → le n plusZero ≡ false → Past → TrueDelayState
+delayOf n positive h = trueDelayOf timeOfRow n notEnabled none-before positive h
+
 abbrev enableOf : Past → EnableState
 enableOf h = record {
   hysteresis = hysteresisOf difference h;
   hold = trueFalseHoldOf timeOfRow holdDuration holdDuration warmOutside h;
-  «outdoor_delay» = trueDelayOf timeOfRow outdoorDelay notEnabled none-before outdoor-positive h;
-  «return_delay» = trueDelayOf timeOfRow returnDelay notEnabled none-before return-positive h;
+  «outdoor_delay» = delayOf outdoorDelay outdoor-positive h;
+  «return_delay» = delayOf returnDelay return-positive h;
 }
 
 abbrev stateOf : Past → EconomizerState
 stateOf h = record { last = lastTime timeOfRow h; «minimum_outdoor_air_loop» = stepped pidWithResetNew loopUpdate h; enable = enableOf h }
+
+delay-new : (n : Float) (positive : le n plusZero ≡ false) → trueDelayNew ≡ delayOf n positive []
+delay-new n positive = true-delay-new timeOfRow n notEnabled none-before positive
 
 fresh-is : economizerFresh ≡ stateOf []
 unfolding economizerFresh enableNew
@@ -90,8 +96,8 @@ fresh-is =
     rw (
       ← hysteresis-new difference,
       ← true-false-hold-new timeOfRow holdDuration holdDuration warmOutside,
-      ← true-delay-new timeOfRow outdoorDelay notEnabled none-before outdoor-positive,
-      ← true-delay-new timeOfRow returnDelay notEnabled none-before return-positive,
+      ← delay-new outdoorDelay outdoor-positive,
+      ← delay-new returnDelay return-positive,
     )
 
 -- ---- the signals of the enable pass, read off the past
@@ -101,8 +107,8 @@ enableRead h = record {
   «outdoor_air_condition» = warmOutside h;
   «held_condition» = held h;
   enabled = isEnabled h;
-  «outdoor_delay_done» = outdoorDelayDone h;
-  «return_delay_done» = returnDelayDone h;
+  «outdoor_delay_done» = delayDone outdoorDelay h;
+  «return_delay_done» = delayDone returnDelay h;
 }
 
 module _ (x : EconomizerRow) (h : Past) where
@@ -115,17 +121,16 @@ module _ (x : EconomizerRow) (h : Past) where
     unfolding held
     held-output = true-false-hold-output timeOfRow holdDuration holdDuration warmOutside hold-kept hold-kept x h o
 
-    outdoor-output : trueDelayOutput (trueDelayOf timeOfRow outdoorDelay notEnabled none-before outdoor-positive h) (x .time) (notEnabled (x ∷ h)) outdoorDelay ≡ outdoorDelayDone (x ∷ h)
-    unfolding outdoorDelayDone
-    outdoor-output = true-delay-output timeOfRow outdoorDelay notEnabled none-before outdoor-positive x h o
+    delay-output : (n : Float) (positive : le n plusZero ≡ false) → trueDelayOutput (delayOf n positive h) (x .time) (notEnabled (x ∷ h)) n ≡ delayDone n (x ∷ h)
+    unfolding delayDone
+    delay-output n positive = true-delay-output timeOfRow n notEnabled none-before positive x h o
 
-    return-output : trueDelayOutput (trueDelayOf timeOfRow returnDelay notEnabled none-before return-positive h) (x .time) (notEnabled (x ∷ h)) returnDelay ≡ returnDelayDone (x ∷ h)
-    unfolding returnDelayDone
-    return-output = true-delay-output timeOfRow returnDelay notEnabled none-before return-positive x h o
+    delay-update : (n : Float) (positive : le n plusZero ≡ false) → trueDelayUpdate (delayOf n positive h) (x .time) (notEnabled (x ∷ h)) n ≡ delayOf n positive (x ∷ h)
+    delay-update n positive = true-delay-update timeOfRow n notEnabled none-before positive x h o
 
     enable-reads : enableOutput (enableOf h) (x .time) (x .«outdoor_air_temperature») outdoorAirCutoff (x .«supply_fan_status») (x .«freeze_protection_stage») ≡ enableRead (x ∷ h)
     unfolding enableOutput isEnabled notEnabled
-    enable-reads = rw (warm-output, held-output, outdoor-output, return-output)
+    enable-reads = rw (warm-output, held-output, delay-output outdoorDelay outdoor-positive, delay-output returnDelay return-positive)
 
     enable-moves : enableUpdate (enableOf h) (x .time) (enableRead (x ∷ h)) ≡ enableOf (x ∷ h)
     unfolding enableUpdate isEnabled notEnabled
@@ -133,8 +138,8 @@ module _ (x : EconomizerRow) (h : Past) where
         rw (
           hysteresis-update difference x h,
           true-false-hold-update timeOfRow holdDuration holdDuration warmOutside hold-kept hold-kept x h o,
-          true-delay-update timeOfRow outdoorDelay notEnabled none-before outdoor-positive x h o,
-          true-delay-update timeOfRow returnDelay notEnabled none-before return-positive x h o,
+          delay-update outdoorDelay outdoor-positive,
+          delay-update returnDelay return-positive,
         )
 
     -- ---- one row of the sequence

@@ -49,12 +49,9 @@ unfoldable pub notEnabled : Past → Bool
 notEnabled [] = false
 notEnabled (x ∷ h) = not (isEnabled (x ∷ h))
 
--- a delay's run is the unbroken run of rows not enabled up to here: it is there, and it began on row 0 or the gap sum from its start reached the delay
-unfoldable pub outdoorDelayDone : Past → Bool
-outdoorDelayDone h = delayed timeOfRow outdoorDelay notEnabled h
-
-unfoldable pub returnDelayDone : Past → Bool
-returnDelayDone h = delayed timeOfRow returnDelay notEnabled h
+-- a delay of n seconds: its run, the unbroken run of rows not enabled up to here, is there, and it began on row 0 or the gap sum from its start reached n
+unfoldable pub delayDone : Float → Past → Bool
+delayDone n h = delayed timeOfRow n notEnabled h
 
 -- ---- what demand 3 speaks of
 pub record EconomizerReading : Type 0 where
@@ -64,4 +61,4 @@ pub record EconomizerReading : Type 0 where
 
 -- read off a past
 unfoldable pub economizerReading : Past → EconomizerReading
-economizerReading h = record { enabled = isEnabled h; outdoorDelayed = outdoorDelayDone h; returnDelayed = returnDelayDone h }
+economizerReading h = record { enabled = isEnabled h; outdoorDelayed = delayDone outdoorDelay h; returnDelayed = delayDone returnDelay h }
