@@ -18,6 +18,7 @@ use Rattle.logical.specs.HeldTimer.{heldTimerOutput}
 use Rattle.logical.specs.TrueFalseHold.{trueFalseHoldOutput}
 use Rattle.past.specs.Past.{since, rises, latched}
 use Rattle.past.specs.Runs.{timeOf}
+use Rattle.past.specs.Acceptance.{lastTime}
 use Rattle.past.specs.Stepped.{stepped, inOrder}
 use Rattle.past.proofs.Laws.{since-none}
 use Rattle.past.proofs.RunLaws.{passed-none}
@@ -34,7 +35,7 @@ use Rattle.freeze_protection.specs.declared.types.FreezeSignals.{FreezeS
 use Rattle.freeze_protection.specs.Constants.{coldStage1, coldStage2, coldStage3, warmLevel, band, fiveMinutes, fifteenMinutes, hour, stage1Setpoint, stage3Setpoint}
 use Rattle.freeze_protection.specs.Signals.{freezeCalls, freezeSignals, stageNumber}
 use Rattle.freeze_protection.specs.Step.{freezeFresh, freezeNext}
-use Rattle.freeze_protection.specs.Reading.{Past, timeOfRow, supplyOf, resetRow, cold, warm, passedFor, holding, endOfHour, recovery, stage1Call, stage3Call, stage, lastTime}
+use Rattle.freeze_protection.specs.Reading.{Past, timeOfRow, supplyOf, resetRow, cold, warm, passedFor, holding, endOfHour, recovery, stage1Call, stage3Call, stage}
 
 -- ---- nothing is true before row 0
 pub cold-none : (l : Float) → cold l [] ≡ false
@@ -119,7 +120,7 @@ heatStage3 h = stepped pidNew (λ s p. pidUpdate s (timeOf timeOfRow p) stage3Se
 -- ---- the state of a past
 abbrev pub stateOf : Past → FreezeState
 stateOf h = record {
-  last = lastTime h;
+  last = lastTime timeOfRow h;
   «les_thr» = thresholdOf supplyOf Less coldStage1 band h;
   tim = heldTimerOf timeOfRow fiveMinutes (cold coldStage1) (cold-none coldStage1) five-positive h;
   «hea_coil_stage_1» = heatStage1 h;

@@ -14,6 +14,7 @@ use Rattle.refusals.specs.Refusals.{judge}
 use Rattle.past.specs.Past.{some, every, sinceWith, since, row0, rises, latched}
 use Rattle.past.specs.Runs.{passed, gaps}
 use Rattle.past.specs.Turns.{values, turns, changes, holdHere, hold}
+use Rattle.past.specs.Acceptance.{lastTime, verdictAfter}
 use Rattle.past.specs.Whole.{nextBy, accepted}
 use Rattle.past.proofs.Laws.{since-step, latched-step, rises-step}
 use Rattle.past.proofs.RunLaws.{passed-step}
@@ -28,7 +29,7 @@ use Rattle.freeze_protection.specs.declared.types.FreezeRow.{FreezeRow}
 use Rattle.freeze_protection.specs.Constants.{coldStage2, coldStage3, band, fiveMinutes, fifteenMinutes, hour}
 use Rattle.freeze_protection.specs.Verdict.{numbersFinite}
 use Rattle.freeze_protection.specs.Signals.{stageNumber}
-use Rattle.freeze_protection.specs.Reading.{Past, timeOfRow, supplyOf, cold, passedFor, lastTime, resetRow, holding, endOfHour, recovery, stage, stage1Call, stage3Call, verdictOf}
+use Rattle.freeze_protection.specs.Reading.{Past, timeOfRow, supplyOf, cold, passedFor, resetRow, holding, endOfHour, recovery, stage, stage1Call, stage3Call, verdictOf}
 use Rattle.freeze_protection.specs.Questions.{isAccepted, taken, tripped, stageAfter, rowAt, seconds, hourDropped, mildRows, calling}
 use Rattle.freeze_protection.proofs.Stages.{two-is}
 use Rattle.freeze_protection.proofs.Blocks.{cold-none, holding-none, hour-none, call3-none}
@@ -154,13 +155,13 @@ mild-finite : (t : Float) → numbersFinite (mild t) ≡ (finite t)
 unfolding numbersFinite round ofBits
 mild-finite t = table1 (λ b. b && true && true && true && true && true && true && true && true && true) (λ b. b) tt (finite t)
 
-not-earlier : (n : ℕ) (t : Float) → T (isTime t) → T (le (seconds 3900) t) → seenAbove (lastTime (mildRows n t ++ hourDropped)) t ≡ false
+not-earlier : (n : ℕ) (t : Float) → T (isTime t) → T (le (seconds 3900) t) → seenAbove (lastTime timeOfRow (mildRows n t ++ hourDropped)) t ≡ false
 unfolding seenAbove
 not-earlier zero t i l = le→not-lt t (seconds 3900) l
 not-earlier (suc n) t i l = le→not-lt t t (le-refl t (time-number t i))
 
 mild-taken : (n : ℕ) (t : Float) → T (isTime t) → T (le (seconds 3900) t) → verdictOf (mildRows n t ++ hourDropped) (mild t) ≡ Accepted
-unfolding verdictOf judge
+unfolding verdictAfter judge
 mild-taken n t i l = rw (mild-finite t, is-true (finite t) (and-l (finite t) (not (isSignNegative t)) i), sign-off (isSignNegative t) (and-r (finite t) (not (isSignNegative t)) i), not-earlier n t i l) refl
   where
     sign-off : (b : Bool) → T (not b) → b ≡ false
@@ -169,7 +170,7 @@ mild-taken n t i l = rw (mild-finite t, is-true (finite t) (and-l (finite t) (no
 
 pub all-taken : (n : ℕ) (t : Float) → T (isTime t) → T (le (seconds 3900) t) → accepted verdictOf (mildRows n t ++ hourDropped) ≡ mildRows n t ++ hourDropped
 unfolding accepted
-all-taken zero t i l = unfold verdictOf judge numbersFinite seenAbove isSignNegative lt round ofBits in refl
+all-taken zero t i l = unfold verdictAfter judge numbersFinite seenAbove isSignNegative lt round ofBits in refl
 all-taken (suc n) t i l = rw (all-taken n t i l, mild-taken n t i l) refl
 
 -- for every number of mild rows and every time from 3900 s on, stage 2 still stands

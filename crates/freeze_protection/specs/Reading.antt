@@ -4,13 +4,11 @@ use mathlib.Core.Bool.{Bool, false, _||_}
 use mathlib.Core.List.{List, [], _∷_}
 use lib.Ieee.{Float, binary64, add, sub, lt}
 use Rattle.reals.specs.Constants.{plusZero}
-use Rattle.reals.specs.declared.seen.Seen.{Seen}
-use Rattle.reals.specs.declared.seen.Seen.the-variants.{Never, At}
 use Rattle.refusals.specs.declared.Verdict.{Verdict}
-use Rattle.refusals.specs.Refusals.{judge}
 use Rattle.past.specs.Past.{since, rises, latched}
 use Rattle.past.specs.Runs.{passed}
 use Rattle.past.specs.Turns.{hold}
+use Rattle.past.specs.Acceptance.{verdictAfter}
 use Rattle.freeze_protection.specs.declared.types.FreezeRow.{FreezeRow}
 use Rattle.freeze_protection.specs.Constants.{coldStage1, coldStage2, coldStage3, warmLevel, band, fiveMinutes, fifteenMinutes, hour}
 use Rattle.freeze_protection.specs.Verdict.{numbersFinite}
@@ -69,11 +67,6 @@ stage3Call h = passedFor fifteenMinutes (cold coldStage2) h || passedFor fiveMin
 unfoldable pub stage : Past → ℕ
 stage h = stageNumber (latched stage3Call resetRow h) (latched holding endOfHour h) (latched stage1Call recovery h)
 
--- the time of the nearest accepted row before, if any
-abbrev pub lastTime : Past → Seen
-lastTime [] = Never
-lastTime (x ∷ h) = At (x .time)
-
--- the refusal that fits a row after these accepted rows: the list alone tells it
-unfoldable pub verdictOf : Past → FreezeRow → Verdict
-verdictOf h x = judge (numbersFinite x) (x .time) (lastTime h)
+-- the refusal, if any, that fits a row after these accepted rows: the list alone tells it
+abbrev pub verdictOf : Past → FreezeRow → Verdict
+verdictOf = verdictAfter timeOfRow numbersFinite
