@@ -6,6 +6,10 @@ use logical::present_timer::PresentTimerState;
 use logical::true_delay::TrueDelayState;
 use logical::true_delay_on_init::TrueDelayOnInitState;
 use logical::true_false_hold::TrueFalseHoldState;
+use moving_average::state::MovingAverageState;
+use reals::hysteresis::HysteresisState;
+use reals::pid::PidState;
+use reals::threshold::ThresholdState;
 
 fn print(y: bool) {
     if y {
@@ -133,7 +137,100 @@ fn economizer_hold() {
     io::write_all(STDOUT_FILENO, b"\n");
 }
 
+// F2: 277.55 is not cold. After a cold row, 277.79 is still cold and 277.81 is not.
+fn cold(s: ThresholdState, supply: f64) -> ThresholdState {
+    print(s.output(supply));
+    s.update(supply)
+}
+
+fn cold_at_stage_1() {
+    io::write_all(
+        STDOUT_FILENO,
+        b"F2 cold at 277.55 K, supply 277.55 277.54 277.79 277.81 277.79:",
+    );
+    let s = ThresholdState::below(277.55, 0.25);
+    let s = cold(s, 277.55);
+    let s = cold(s, 277.54);
+    let s = cold(s, 277.79);
+    let s = cold(s, 277.81);
+    cold(s, 277.79);
+    io::write_all(STDOUT_FILENO, b"\n");
+}
+
+// E1: the difference must be above 0 to rise, and stays while at least -1.
+fn warm(s: HysteresisState, difference: f64) -> HysteresisState {
+    print(s.output(difference));
+    s.update(difference)
+}
+
+fn economizer_hysteresis() {
+    io::write_all(
+        STDOUT_FILENO,
+        b"E1 economizer hysteresis, difference 0 0.5 0 -1 -1.25 0:",
+    );
+    let s = HysteresisState::new();
+    let s = warm(s, 0.0);
+    let s = warm(s, 0.5);
+    let s = warm(s, 0.0);
+    let s = warm(s, -1.0);
+    let s = warm(s, -1.25);
+    warm(s, 0.0);
+    io::write_all(STDOUT_FILENO, b"\n");
+}
+
+// F7: how many rows, 60 s apart and off the setpoint, the loop takes until its output is a NaN.
+fn rows_to_nan() -> u64 {
+    let mut s = PidState::new();
+    let mut t = 0.0;
+    for n in 0..1000 {
+        let y = s.output(279.15, 277.0);
+        if y != y {
+            return n;
+        }
+        s = s.update(t, 279.15, 277.0);
+        t = t + 60.0;
+    }
+    1000
+}
+
+fn freeze_loop() {
+    io::write_all(
+        STDOUT_FILENO,
+        b"F7 freeze loop, 277 K against 279.15 K, rows 60 s apart, rows before a NaN: ",
+    );
+    io::print_decimal(STDOUT_FILENO, rows_to_nan());
+    io::write_all(STDOUT_FILENO, b"\n");
+}
+
+// R5: the window after rows each 0.5 s from 0; an update of a full window hands it back.
+fn filled_window() -> MovingAverageState {
+    let mut s = MovingAverageState::new();
+    let mut t = 0.0;
+    for n in 0..600u64 {
+        s = s.update(t, 12.0);
+        t = t + 0.5;
+    }
+    s
+}
+
+fn window_of_half_seconds() {
+    io::write_all(
+        STDOUT_FILENO,
+        b"R5 window, rows each 0.5 s from 0; points, and full at 256 300 300.5: ",
+    );
+    let s = filled_window();
+    io::print_decimal(STDOUT_FILENO, s.count as u64);
+    print(s.is_full(256.0));
+    print(s.is_full(300.0));
+    print(s.is_full(300.5));
+    io::write_all(STDOUT_FILENO, b"\n");
+}
+
 fn main() {
+    cold_at_stage_1();
+    economizer_hysteresis();
+    freeze_loop();
+    window_of_half_seconds();
     economizer_delay_on_row_0();
     outdoor_delay();
     return_delay();
