@@ -11,3 +11,4 @@ pub mod HoldReading
 pub mod DelayReading
 pub mod Whole
 pub mod Judged
+pub mod Sequence

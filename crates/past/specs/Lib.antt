@@ -4,3 +4,4 @@ pub mod Runs
 pub mod Turns
 pub mod Stepped
 pub mod Whole
+pub mod Acceptance
