@@ -1,0 +1,175 @@
+-- Texts written into a buffer: digit by digit, and one after another. Assumes nothing.
+use Prim.Native.Nat.{ℕ, zero, suc, _+_, _-_, _*_, _/_, _%_, _^_, _≤_, _<_}
+use mathlib.Core.Path.{_≡_, refl, sym, ap, _∙_, subst}
+use mathlib.Core.List.{List, [], _∷_, _++_, append-assoc}
+use mathlib.Core.Bool.{Bool, true, false, cond}
+use native.Mathlib.Omega.{arith}
+use native.Mathlib.Nat.{pow-suc}
+use lib.ListN.{length, take, drop, set, replicate, length-set, length-replicate, length-append, length-drop}
+use lib.Seq.{take-set-le, set-split, take-at, drop-at, drop-drop, append-snoc, length-take-le, paste-zero}
+use lib.Dec.{ltb}
+use borrow.Author.Tests.{lt-ltb, le-ltb}
+use Rattle.row_lines.specs.Column.{pad, text, over, Wrote}
+use Rattle.row_lines.proofs.Scanning.{length-pad, length-text, replicate-snoc}
+
+-- ---- a number written from its last digit on: the stores that are left
+
+-- spaces in the k places from at on
+abbrev pub fillTo : List ℕ → ℕ → ℕ → List ℕ
+fillTo l at zero = l
+fillTo l at (suc k) = fillTo (set l (at + k) 32) at k
+
+-- a mark before the place at + k, and spaces before it
+abbrev padTo : List ℕ → ℕ → ℕ → ℕ → List ℕ
+padTo l at m zero = l
+padTo l at m (suc k) = fillTo (set l (at + k) m) at k
+
+-- the digits of n before the place at + k, and the mark and the spaces before them
+abbrev pub putTo : List ℕ → ℕ → ℕ → ℕ → ℕ → List ℕ
+putTo l at m zero n = l
+putTo l at m (suc k) n =
+    cond (ltb n 10) (padTo (set l (at + k) (48 + n % 10)) at m k) (putTo (set l (at + k) (48 + n % 10)) at m k (n / 10))
+
+module _ (l : List ℕ) (at : ℕ) where
+  pub fill-step : (k : ℕ) → 0 < k → fillTo l at k ≡ fillTo (set l (at + (k - 1)) 32) at (k - 1)
+  fill-step zero h = absurd (omega arith)
+  fill-step (suc k) h =
+      let e : suc k - 1 ≡ k = omega arith in
+      rw e
+
+  pad-step : (m k : ℕ) → 0 < k → padTo l at m k ≡ fillTo (set l (at + (k - 1)) m) at (k - 1)
+  pad-step m zero h = absurd (omega arith)
+  pad-step m (suc k) h =
+      let e : suc k - 1 ≡ k = omega arith in
+      rw e
+
+  put-one : (m k n : ℕ) → 0 < k → n ≤ 9 → putTo l at m k n ≡ padTo (set l (at + (k - 1)) (48 + n)) at m (k - 1)
+  put-one m zero n h d = absurd (omega arith)
+  put-one m (suc k) n h d =
+      let e : suc k - 1 ≡ k = omega arith in
+      let r : n % 10 ≡ n = omega arith in
+      let t : n < 10 = omega arith in
+      simp (e, lt-ltb _ _ t, r)
+
+  pub put-more : (m k n : ℕ) → 0 < k → 9 < n → putTo l at m k n ≡ putTo (set l (at + (k - 1)) (48 + n % 10)) at m (k - 1) (n / 10)
+  put-more m zero n h d = absurd (omega arith)
+  put-more m (suc k) n h d =
+      let e : suc k - 1 ≡ k = omega arith in
+      let t : 10 ≤ n = omega arith in
+      simp (e, le-ltb _ _ t)
+
+-- room for the digits that are left, and for the mark
+pub room-more : (k n : ℕ) → 2 ≤ k → 9 < n → n < 10 ^ (k - 1) → (2 ≤ k - 1) × (n / 10 < 10 ^ (k - 1 - 1))
+room-more k n h d r = go (k - 1) (omega arith) r
+  where
+    go : (j : ℕ) → 1 ≤ j → n < 10 ^ j → (2 ≤ j) × (n / 10 < 10 ^ (j - 1))
+    go zero g f = absurd (omega arith)
+    go (suc zero) g f = absurd (omega arith)
+    go (suc (suc j)) g f =
+        let p : 10 ^ suc (suc j) ≡ 10 ^ suc j * 10 = pow-suc 10 (suc j) in
+        let e : suc (suc j) - 1 ≡ suc j = omega arith in
+        (omega arith, rw e (omega arith))
+
+-- ---- all the stores, as one text
+
+-- a text and the byte after it
+module _ (l : List ℕ) (at k x : ℕ) (h : at + k < length l) where
+  take-kept : take at (set l (at + k) x) ≡ take at l
+  take-kept = take-set-le at l (at + k) x (omega arith)
+
+  drop-kept : drop (at + k) (set l (at + k) x) ≡ x ∷ drop (suc (at + k)) l
+  drop-kept =
+      ap (λ (s : List ℕ). drop (at + k) s) (set-split l (at + k) x h)
+      ∙ drop-at (take (at + k) l) (x ∷ drop (suc (at + k)) l) (at + k) (length-take-le (at + k) l (omega arith))
+
+  over-snoc : (t : List ℕ) → length t ≡ k → over (set l (at + k) x) at t ≡ over l at (t ++ (x ∷ []))
+  over-snoc t e =
+      let p : at + length (t ++ (x ∷ [])) ≡ suc (at + k) = ap (λ (j : ℕ). at + j) (length-append t (x ∷ [])) ∙ omega arith in
+      ap (λ (j : ℕ). take at (set l (at + k) x) ++ t ++ drop (at + j) (set l (at + k) x)) e
+      ∙ ap (λ (s : List ℕ). s ++ t ++ drop (at + k) (set l (at + k) x)) take-kept
+      ∙ ap (λ (s : List ℕ). take at l ++ t ++ s) drop-kept
+      ∙ simp append-assoc (ap (λ (j : ℕ). take at l ++ (t ++ (x ∷ drop j l))) (sym p))
+
+pub fill-over : (l : List ℕ) (at w : ℕ) → at + w ≤ length l → fillTo l at w ≡ over l at (replicate w 32)
+fill-over l at zero h = paste-zero l at []
+fill-over l at (suc w) h =
+    let i : at + w < length l = omega arith in
+    fill-over (set l (at + w) 32) at w (rw length-set (omega arith))
+    ∙ over-snoc l at w 32 i (replicate w 32) (length-replicate w 32)
+    ∙ ap (λ (t : List ℕ). over l at t) (replicate-snoc w)
+
+-- the last stores: one digit, the mark, and spaces
+pub put-end : (l : List ℕ) (at m k n : ℕ) → at + k ≤ length l → 2 ≤ k → n ≤ 9
+    → over (set (set l (at + (k - 1)) (48 + n)) (at + (k - 1 - 1)) m) at (replicate (k - 1 - 1) 32) ≡ putTo l at m k n
+put-end l at m k n g h d =
+    let l′ : List ℕ = set l (at + (k - 1)) (48 + n) in
+    let f : at + (k - 1 - 1) ≤ length (set l′ (at + (k - 1 - 1)) m) = simp length-set (omega arith) in
+    sym (put-one l at m k n (omega arith) d ∙ pad-step l′ at m (k - 1) (omega arith) ∙ fill-over (set l′ (at + (k - 1 - 1)) m) at (k - 1 - 1) f)
+
+pad-over : (l : List ℕ) (at m w : ℕ) → at + w ≤ length l → padTo l at m w ≡ over l at (pad m w)
+pad-over l at m zero h = paste-zero l at []
+pad-over l at m (suc w) h =
+    let i : at + w < length l = omega arith in
+    fill-over (set l (at + w) m) at w (rw length-set (omega arith))
+    ∙ over-snoc l at w m i (replicate w 32) (length-replicate w 32)
+
+either : (l : List ℕ) (at x : ℕ) (t : Bool) (a b f g : List ℕ) → a ≡ over l at (f ++ (x ∷ [])) → b ≡ over l at (g ++ (x ∷ [])) → cond t a b ≡ over l at (cond t f g ++ (x ∷ []))
+either l at x true a b f g p q = p
+either l at x false a b f g p q = q
+
+pub put-over : (l : List ℕ) (at m w n : ℕ) → at + w ≤ length l → putTo l at m w n ≡ over l at (text m w n)
+put-over l at m zero n h = paste-zero l at []
+put-over l at m (suc w) n h =
+    let i : at + w < length l = omega arith in
+    let x : ℕ = 48 + n % 10 in
+    let k : at + w ≤ length (set l (at + w) x) = rw length-set (omega arith) in
+    either l at x (ltb n 10) _ _ (pad m w) (text m w (n / 10))
+    (pad-over (set l (at + w) x) at m w k ∙ over-snoc l at w x i (pad m w) (length-pad m w))
+    (put-over (set l (at + w) x) at m w (n / 10) k ∙ over-snoc l at w x i (text m w (n / 10)) (length-text m w (n / 10)))
+
+-- ---- one text written after another
+
+module _ (l : List ℕ) (at : ℕ) (a : List ℕ) (h : at + length a ≤ length l) where
+  head-length : length (take at l ++ a) ≡ at + length a
+  head-length = length-append (take at l) a ∙ ap (λ (k : ℕ). k + length a) (length-take-le at l (omega arith))
+
+  pub take-over : take (at + length a) (over l at a) ≡ take at l ++ a
+  take-over = take-at (take at l ++ a) (drop (at + length a) l) (at + length a) head-length
+
+  drop-over : drop (at + length a) (over l at a) ≡ drop (at + length a) l
+  drop-over = drop-at (take at l ++ a) (drop (at + length a) l) (at + length a) head-length
+
+  pub length-over : length (over l at a) ≡ length l
+  length-over =
+      length-append (take at l ++ a) (drop (at + length a) l)
+      ∙ ap (λ (k : ℕ). k + length (drop (at + length a) l)) head-length
+      ∙ ap (λ (k : ℕ). at + length a + k) (length-drop (at + length a) l)
+      ∙ omega arith
+
+  over-over : (b : List ℕ) → over (over l at a) (at + length a) b ≡ over l at (a ++ b)
+  over-over b =
+      let e : at + length (a ++ b) ≡ at + length a + length b = ap (λ (k : ℕ). at + k) (length-append a b) ∙ omega arith in
+      ap (λ (t : List ℕ). t ++ b ++ drop (at + length a + length b) (over l at a)) take-over
+      ∙ ap (λ (t : List ℕ). take at l ++ a ++ b ++ t)
+      (sym (drop-drop (length b) (at + length a) (over l at a)) ∙ ap (λ (t : List ℕ). drop (length b) t) drop-over ∙ drop-drop (length b) (at + length a) l)
+      ∙ simp append-assoc (ap (λ (k : ℕ). take at l ++ (a ++ (b ++ drop k l))) (sym e))
+
+-- the byte at a place
+pub byte-over : (l : List ℕ) (at x : ℕ) → at < length l → set l at x ≡ over l at (x ∷ [])
+byte-over l at x h =
+    let e : suc at ≡ at + 1 = omega arith in
+    set-split l at x h ∙ ap (λ (k : ℕ). take at l ++ x ∷ drop k l) e ∙ sym (append-snoc (take at l) x (drop (at + 1) l))
+
+-- two texts, the second where the first ends, are one
+pub wrote-both : (l l′ l″ : List ℕ) (at at′ at″ : ℕ) (a b : List ℕ) → at + length a ≤ length l
+    → Wrote l at a l′ at′ → Wrote l′ at′ b l″ at″ → Wrote l at (a ++ b) l″ at″
+wrote-both l l′ l″ at at′ at″ a b h p q =
+    record {
+      bytes =
+          q .bytes ∙ ap (λ (k : ℕ). over l′ k b) (p .place) ∙ ap (λ (x : List ℕ). over x (at + length a) b) (p .bytes) ∙ over-over l at a h b;
+      place = q .place ∙ ap (λ (k : ℕ). k + length b) (p .place) ∙ omega (arith, length-append a b);
+    }
+
+-- a text written is written under another name for it
+pub wrote-as : {l l′ : List ℕ} {at at′ : ℕ} (a b : List ℕ) → a ≡ b → Wrote l at a l′ at′ → Wrote l at b l′ at′
+wrote-as {l} {l′} {at} {at′} a b e w = subst (λ (t : List ℕ). Wrote l at t l′ at′) e w

@@ -1,0 +1,6 @@
+// Row lines (document 01, 'Row lines'): columns 21 wide and what stands in them, read and written, each the exact inverse of the other.
+pub mod scan; // a column, read: the number in it
+pub mod column; // a column, written
+pub mod pattern; // a float and its 64-bit pattern
+pub mod field; // a field: an unsigned number, a signed number, a yes or no, a float
+pub mod line; // the columns of a line, and its end
