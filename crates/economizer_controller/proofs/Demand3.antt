@@ -2,13 +2,12 @@
 -- reads off the accepted rows up to there. Assumes nothing.
 use Prim.Native.Nat.{ℕ, suc, _<_}
 use mathlib.Core.Path.{_≡_, refl}
-use mathlib.Core.Bool.{false}
+use mathlib.Core.Bool.{Bool, true, false, _&&_}
 use mathlib.Core.List.{List, [], _∷_, reverse}
 use lib.Dec.{T}
 use lib.ListN.{length, getD, take}
 use lib.Ieee.{Float, ofBits, le, lt, isNan}
 use lib.Ieee.Scale.{finite}
-use lib.Ieee.Fits.{and-l}
 use Rattle.reals.specs.Constants.{plusZero}
 use Rattle.reals.specs.Order.{greater}
 use Rattle.reals.specs.Switch.{switch}
@@ -180,7 +179,11 @@ module _ (state : EconomizerState) (row : EconomizerRow) where
 -- ---- whole lists
 time-finite : (x : EconomizerRow) → T (numbersFinite x) → T (finite (x .time))
 unfolding numbersFinite
-time-finite x t = and-l (finite (x .time)) _ t
+time-finite x t = first (finite (x .time)) _ _ _ _ t
+  where
+    first : (a b c d e : Bool) → T (a && b && c && d && e) → T a
+    first true b c d e t = tt
+    first false b c d e t = t
 
 -- for every list of rows
 pub economizer-demand-3 : (rows : List EconomizerRow) → run economizerTold economizerReturned economizerFresh rows ≡ readAll verdictOf economizerReading [] rows

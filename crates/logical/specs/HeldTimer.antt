@@ -20,6 +20,7 @@ heldTimerOutput s t u =
     let falls = not u && s .«prev_u» in
     record { passed = logicalSwitch rises (le (s .threshold) plusZero) (logicalSwitch reaches true (logicalSwitch falls false (s .passed))) }
 
--- the Rust's prev_t is left out: it is read only where prev_u is true, and is then Some in every state that a run reaches
+-- The entry time and the mark of this row; u becomes pre(u). The Rust's prev_t is left out: only whether it is Some is read, where prev_u is
+-- true, and it then is in every state that a run reaches.
 unfoldable pub heldTimerUpdate : HeldTimerState → Float → Bool → HeldTimerState
 heldTimerUpdate s t u = record { threshold = s .threshold; «entry_time» = entryTime (s .«entry_time») (s .«prev_u») t u; «prev_u» = u; passed = heldTimerOutput s t u .passed }

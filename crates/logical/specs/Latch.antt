@@ -10,5 +10,6 @@ latchNew = record { held = false; «prev_u» = false }
 unfoldable pub latchOutput : LatchState → Bool → Bool → Bool
 latchOutput s u clear = not clear && ((u && not (s .«prev_u»)) || s .held)
 
+-- y is kept; u becomes pre(u)
 unfoldable pub latchUpdate : LatchState → Bool → Bool → LatchState
 latchUpdate s u clear = record { held = latchOutput s u clear; «prev_u» = u }

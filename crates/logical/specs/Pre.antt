@@ -6,8 +6,10 @@ use Rattle.logical.specs.declared.pre.PreState.{PreState}
 unfoldable pub preNew : Bool → PreState
 preNew yStart = record { previous = yStart }
 
+-- the input of the row before
 unfoldable pub preOutput : PreState → Bool
 preOutput s = s .previous
 
+-- u becomes pre(u)
 unfoldable pub preUpdate : PreState → Bool → PreState
 preUpdate s u = record { previous = u }

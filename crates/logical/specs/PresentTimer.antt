@@ -6,6 +6,7 @@ use Rattle.logical.specs.declared.present_timer.PresentTimerState.{Prese
 use Rattle.logical.specs.declared.timer.TimerOutput.{TimerOutput}
 use Rattle.logical.specs.Timer.{entryTime, elapsedTime}
 
+-- no entry, and u false before the first row
 unfoldable pub presentTimerNew : Float → PresentTimerState
 presentTimerNew threshold = record { threshold = threshold; «entry_time» = Never; «prev_u» = false }
 
@@ -13,6 +14,6 @@ presentTimerNew threshold = record { threshold = threshold; «entry_time» = Nev
 unfoldable pub presentTimerOutput : PresentTimerState → Float → Bool → TimerOutput
 presentTimerOutput s t u = record { passed = u && s .«prev_u» && le (s .threshold) (elapsedTime (s .«entry_time») (s .«prev_u») t u) }
 
--- prev_t of the Rust is left out, as in the held timer
+-- the entry time of this row; u becomes pre(u). The Rust's prev_t is left out, as in the held timer
 unfoldable pub presentTimerUpdate : PresentTimerState → Float → Bool → PresentTimerState
 presentTimerUpdate s t u = record { threshold = s .threshold; «entry_time» = entryTime (s .«entry_time») (s .«prev_u») t u; «prev_u» = u }

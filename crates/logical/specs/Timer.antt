@@ -7,7 +7,8 @@ use Rattle.reals.specs.Constants.{plusZero}
 use Rattle.reals.specs.Seen.{seenElapsed}
 use Rattle.reals.specs.Switch.{switch}
 
--- entryTime at a row with input u at t, from that of the row before and pre(u): t where u rises, kept while u stays true, none while u is false
+-- entryTime at a row with input u at t, from that of the row before and pre(u): t where u rises, kept while u stays true, none while u is false.
+-- Both `TimerState` keep the number after a fall and do not read it again before the next rise.
 unfoldable pub entryTime : Seen → Bool → Float → Bool → Seen
 entryTime entry preU t u = cond u (cond preU entry (At t)) Never
 

@@ -8,6 +8,7 @@ use Rattle.reals.specs.Seen.{seenNever, seenGap}
 use Rattle.reals.specs.Switch.{switch}
 use Rattle.logical.specs.declared.true_delay.TrueDelayState.{TrueDelayState}
 
+-- no row seen; previous_time is never seen where the Rust has initialized = false
 unfoldable pub trueDelayNew : TrueDelayState
 trueDelayNew = record { «previous_time» = Never; «previous_input» = false; «held_output» = false; timer = plusZero }
 
@@ -19,7 +20,7 @@ trueDelayNextTimer s t u = switch (u && s .«previous_input») (add binary64 (s 
 unfoldable pub trueDelayOutput : TrueDelayState → Float → Bool → Float → Bool
 trueDelayOutput s t u delay = u && (seenNever (s .«previous_time») || s .«held_output» || le delay (trueDelayNextTimer s t u))
 
--- where the output is true the Rust puts the delay for the timer, which is not read again before u falls
+-- time, input, output and timer are kept. Where the output is true the Rust puts the delay for the timer, which is not read again before u falls.
 unfoldable pub trueDelayUpdate : TrueDelayState → Float → Bool → Float → TrueDelayState
 trueDelayUpdate s t u delay =
     let y = trueDelayOutput s t u delay in

@@ -7,6 +7,7 @@ use Rattle.reals.specs.Seen.{seenNever, seenElapsed}
 use Rattle.logical.specs.declared.true_delay_on_init.TrueDelayOnInitState.{TrueDelayOnInitState}
 use Rattle.logical.specs.Timer.{entryTime}
 
+-- no entry, and u false before the first row
 unfoldable pub trueDelayOnInitNew : Float → TrueDelayOnInitState
 trueDelayOnInitNew delayTime = record { «delay_time» = delayTime; «entry_time» = Never; «previous_u» = false }
 
@@ -14,5 +15,6 @@ trueDelayOnInitNew delayTime = record { «delay_time» = delayTime; «entry_time
 unfoldable pub trueDelayOnInitOutput : TrueDelayOnInitState → Float → Bool → Bool
 trueDelayOnInitOutput s t u = u && not (seenNever (s .«entry_time»)) && le (s .«delay_time») (seenElapsed (s .«entry_time») t)
 
+-- the entry time of this row; u becomes pre(u)
 unfoldable pub trueDelayOnInitUpdate : TrueDelayOnInitState → Float → Bool → TrueDelayOnInitState
 trueDelayOnInitUpdate s t u = record { «delay_time» = s .«delay_time»; «entry_time» = entryTime (s .«entry_time») (s .«previous_u») t u; «previous_u» = u }

@@ -11,6 +11,7 @@ use Rattle.logical.specs.declared.true_false_hold.TrueFalseHoldState.{Tr
 use Rattle.logical.specs.declared.true_false_hold.TrueFalseHoldOutput.{TrueFalseHoldOutput}
 use Rattle.logical.specs.Switch.{logicalSwitch}
 
+-- no row seen, with trueHoldDuration and falseHoldDuration
 unfoldable pub trueFalseHoldNew : Float → Float → TrueFalseHoldState
 trueFalseHoldNew trueFor falseFor = record { held = false; timer = plusZero; «prev_t» = Never; «true_hold_duration» = trueFor; «false_hold_duration» = falseFor }
 
@@ -26,9 +27,11 @@ trueFalseHoldOutputAndTimer s t u =
     let changes = seenNever (s .«prev_t») || (not (Bool·beq u (s .held)) && le (trueFalseHoldRequired s) timer) in
     record { y = logicalSwitch changes u (s .held); timer = switch changes plusZero timer }
 
+-- the output alone
 unfoldable pub trueFalseHoldOutput : TrueFalseHoldState → Float → Bool → Bool
 trueFalseHoldOutput s t u = trueFalseHoldOutputAndTimer s t u .y
 
+-- the output and the timer are kept, with the time of this row
 unfoldable pub trueFalseHoldUpdate : TrueFalseHoldState → Float → Bool → TrueFalseHoldState
 trueFalseHoldUpdate s t u =
     let next = trueFalseHoldOutputAndTimer s t u in

@@ -26,6 +26,7 @@ impl HeldTimerState {
         }
     }
 
+    // A rise re-arms the mark, the threshold sets it, a fall clears it; else it is kept.
     pub fn output(self, t: f64, u: bool) -> TimerOutput
         ensures { λ r. ⌜ r ≡ heldTimerOutput self t u ⌝ }
     {
@@ -35,9 +36,9 @@ impl HeldTimerState {
         let reaches = u & (elapsed >= self.threshold);
         let falls = !u & self.prev_u;
         let kept = logical_switch(falls, false, self.passed);
-        let since = logical_switch(reaches, true, kept);
+        let reached = logical_switch(reaches, true, kept);
         TimerOutput {
-            passed: logical_switch(rises, self.threshold <= 0.0, since),
+            passed: logical_switch(rises, self.threshold <= 0.0, reached),
         }
     }
 

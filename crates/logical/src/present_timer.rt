@@ -23,6 +23,7 @@ impl PresentTimerState {
         }
     }
 
+    // The input was true at the row before and is true here, and the elapsed time is the threshold or more.
     pub fn output(self, t: f64, u: bool) -> TimerOutput
         ensures { λ r. ⌜ r ≡ presentTimerOutput self t u ⌝ }
     {

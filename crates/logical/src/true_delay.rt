@@ -32,6 +32,7 @@ impl TrueDelayState {
         switch(u & self.previous_input, self.timer + gap, 0.0)
     }
 
+    // True while the input is: on the first row at once, later from the row at which the gaps reach the delay.
     pub fn output(self, t: f64, u: bool, delay: f64) -> bool
         ensures { λ r. ⌜ r ≡ trueDelayOutput self t u delay ⌝ }
     {

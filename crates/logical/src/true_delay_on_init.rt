@@ -21,6 +21,7 @@ impl TrueDelayOnInitState {
         }
     }
 
+    // The input is true here and has been for the delay.
     pub fn output(self, t: f64, u: bool) -> bool
         ensures { λ r. ⌜ r ≡ trueDelayOnInitOutput self t u ⌝ }
     {

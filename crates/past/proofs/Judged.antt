@@ -25,7 +25,7 @@ finite-number nan h = absurd h
 finite-number (inf s) h = absurd h
 finite-number (fin s m e) h = refl
 
-time-number : (x : Float) → T (isTime x) → isNan x ≡ false
+pub time-number : (x : Float) → T (isTime x) → isNan x ≡ false
 unfolding isNan
 time-number nan h = absurd h
 time-number (inf s) h = refl

@@ -256,3 +256,7 @@ self-equal (fin false m e) = rw (is-true (eqb (m * up e * down e) (m * up e * do
 pub differs : (x : Float) → ne x x ≡ isNan x
 unfolding ne
 differs x = rw (self-equal x) (table1 (λ b. not (not b)) (λ b. b) tt (isNan x))
+
+pub le-refl : (x : Float) → isNan x ≡ false → T (le x x)
+unfolding le
+le-refl x e = or-r (lt x x) (eq x x) (rw (self-equal x, e) tt)

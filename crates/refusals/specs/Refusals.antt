@@ -1,9 +1,7 @@
 -- Refusals (document 01, 'What each row refuses'). The first one that fits, in the order of their numbers, is given.
 use Prim.Native.Nat.{ℕ}
-use mathlib.Core.Bool.{Bool, true, not, _&&_, cond}
-use mathlib.Core.List.{List, [], _∷_}
+use mathlib.Core.Bool.{Bool, not, cond}
 use lib.Ieee.{Float}
-use lib.Ieee.Scale.{finite}
 use Rattle.reals.specs.declared.seen.Seen.{Seen}
 use Rattle.reals.specs.Sign.{isSignNegative}
 use Rattle.reals.specs.Seen.{seenAbove}
@@ -19,12 +17,7 @@ refusalNumber NegativeTime = 2
 refusalNumber FallingTime = 3
 refusalNumber WindowFull = 4
 
--- every number of a list is finite
-abbrev pub allFinite : List Float → Bool
-allFinite [] = true
-allFinite (x ∷ rest) = finite x && allFinite rest
-
 -- 1 if a number is not finite; 2 if the time's sign bit is set, so −0.0 too; 3 if the time is below the last accepted time. Equal times are taken.
 unfoldable pub judge : Bool → Float → Seen → Verdict
-judge allAreFinite time last =
-    cond (not allAreFinite) (Refused NotFinite) (cond (isSignNegative time) (Refused NegativeTime) (cond (seenAbove last time) (Refused FallingTime) Accepted))
+judge finite time last =
+    cond (not finite) (Refused NotFinite) (cond (isSignNegative time) (Refused NegativeTime) (cond (seenAbove last time) (Refused FallingTime) Accepted))

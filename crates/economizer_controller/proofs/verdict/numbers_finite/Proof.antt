@@ -1,7 +1,4 @@
 -- `numbers_finite` meets its contract: each number is tested. Assumes nothing.
-use mathlib.Core.Path.{_≡_}
-use mathlib.Core.Bool.{Bool, true, _&&_}
-use Rattle.reals.proofs.Truth.{table5}
 use Rattle.economizer_controller.specs.Verdict.{numbersFinite}
 use borrow.Author.Needs.{needs}
 use Rattle.economizer_controller.proofs.verdict.numbers_finite.Statement.{statement}
@@ -22,10 +19,6 @@ is-finite-requires-4 c κs = search needs
 is-finite-requires-5 : tie.Need-is-finite-requires-5
 is-finite-requires-5 c κs = search needs
 
--- the tests, grouped from the right as in a list
-regrouped : (a b c d e : Bool) → (a && b && c && d && e) ≡ (a && (b && (c && (d && (e && true)))))
-regrouped = table5 (λ a b c d e. a && b && c && d && e) (λ a b c d e. a && (b && (c && (d && (e && true))))) tt
-
 returns : tie.Need-returns
 unfolding numbersFinite
 returns c =
@@ -37,7 +30,6 @@ returns c =
       ← c .before .is-finite4 .ensures,
       ← c .is-finite5 .ensures,
     )
-    (regrouped (k .before .before .is-finite .result) (k .before .is-finite2 .result) (k .is-finite3 .result) (c .before .is-finite4 .result) (c .is-finite5 .result))
 
 pub numbers-finite-spec : {M : Type 1} → statement M
 numbers-finite-spec =

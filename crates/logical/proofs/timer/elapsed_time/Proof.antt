@@ -1,4 +1,4 @@
--- `elapsed_time` meets its contract: each callee's equation is folded into the definition. Assumes nothing.
+-- `elapsed_time` meets its contract: each callee's result is what its equation says. Assumes nothing.
 use Rattle.logical.specs.Timer.{elapsedTime}
 use borrow.Author.Needs.{needs}
 use Rattle.logical.proofs.timer.elapsed_time.Statement.{statement}
@@ -12,10 +12,7 @@ switch-requires c κs = search needs
 
 returns : tie.Need-returns
 unfolding elapsedTime
-returns c = rw (
-  ← c .before .elapsed .ensures,
-  ← c .switch .ensures,
-)
+returns c = simp (c .switch .ensures, c .before .elapsed .ensures)
 
 pub elapsed-time-spec : {M : Type 1} → statement M
 elapsed-time-spec = tie.close (tie.spec elapsed-requires switch-requires returns)

@@ -1,4 +1,4 @@
--- `ElapsedTimerState::output` meets its contract: each callee's equation is folded into the definition. Assumes nothing.
+-- `ElapsedTimerState::output` meets its contract: each callee's result is what its equation says. Assumes nothing.
 use Rattle.logical.specs.ElapsedTimer.{elapsedTimerOutput}
 use borrow.Author.Needs.{needs}
 use Rattle.logical.proofs.elapsed_timer.ElapsedTimerState.output.Statement.{statement}
@@ -12,10 +12,7 @@ elapsed-requires c κs = search needs
 
 returns : tie.Need-returns
 unfolding elapsedTimerOutput
-returns c = rw (
-  ← c .before .entry-time .ensures,
-  ← c .elapsed .ensures,
-)
+returns c = simp (c .elapsed .ensures, c .before .entry-time .ensures)
 
 pub output-spec : {M : Type 1} → statement M
 output-spec = tie.close (tie.spec entry-time-requires elapsed-requires returns)

@@ -1,4 +1,4 @@
--- `HeldTimerState::output` meets its contract: each callee's equation is folded into the definition. Assumes nothing.
+-- `HeldTimerState::output` meets its contract: each callee's result is what its equation says. Assumes nothing.
 use Rattle.logical.specs.HeldTimer.{heldTimerOutput}
 use borrow.Author.Needs.{needs}
 use Rattle.logical.proofs.held_timer.HeldTimerState.output.Statement.{statement}
@@ -20,12 +20,7 @@ returns : tie.Need-returns
 unfolding heldTimerOutput
 returns c =
     let kept = c .before .before .before in
-    rw (
-      ← kept .before .before .before .before .elapsed-time .ensures,
-      ← kept .logical-switch .ensures,
-      ← c .before .before .logical-switch2 .ensures,
-      ← c .logical-switch3 .ensures,
-    )
+    simp (c .logical-switch3 .ensures, c .before .before .logical-switch2 .ensures, kept .logical-switch .ensures, kept .before .before .before .before .elapsed-time .ensures)
 
 pub output-spec : {M : Type 1} → statement M
 output-spec =

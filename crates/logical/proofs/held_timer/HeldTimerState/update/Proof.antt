@@ -1,4 +1,4 @@
--- `HeldTimerState::update` meets its contract: each callee's equation is folded into the definition. Assumes nothing.
+-- `HeldTimerState::update` meets its contract: each callee's result is what its equation says. Assumes nothing.
 use Rattle.logical.specs.HeldTimer.{heldTimerUpdate}
 use borrow.Author.Needs.{needs}
 use Rattle.logical.proofs.held_timer.HeldTimerState.update.Statement.{statement}
@@ -12,10 +12,7 @@ output-requires c κs = search needs
 
 returns : tie.Need-returns
 unfolding heldTimerUpdate
-returns c = rw (
-  ← c .before .entry-time .ensures,
-  ← c .output .ensures,
-)
+returns c = simp (c .output .ensures, c .before .entry-time .ensures)
 
 pub update-spec : {M : Type 1} → statement M
 update-spec = tie.close (tie.spec entry-time-requires output-requires returns)

@@ -1,4 +1,4 @@
--- `LatchState::update` meets its contract: the callee's equation is folded into the definition. Assumes nothing.
+-- `LatchState::update` meets its contract: the callee's result is what its equation says. Assumes nothing.
 use Rattle.logical.specs.Latch.{latchUpdate}
 use borrow.Author.Needs.{needs}
 use Rattle.logical.proofs.latch.LatchState.update.Statement.{statement}
@@ -9,7 +9,7 @@ output-requires c κs = search needs
 
 returns : tie.Need-returns
 unfolding latchUpdate
-returns c = rw (← c .output .ensures)
+returns c = simp (c .output .ensures)
 
 pub update-spec : {M : Type 1} → statement M
 update-spec = tie.close (tie.spec output-requires returns)

@@ -1,4 +1,4 @@
--- `PresentTimerState::output` meets its contract: the callee's equation is folded into the definition. Assumes nothing.
+-- `PresentTimerState::output` meets its contract: the callee's result is what its equation says. Assumes nothing.
 use Rattle.logical.specs.PresentTimer.{presentTimerOutput}
 use borrow.Author.Needs.{needs}
 use Rattle.logical.proofs.present_timer.PresentTimerState.output.Statement.{statement}
@@ -9,7 +9,7 @@ elapsed-time-requires c κs = search needs
 
 returns : tie.Need-returns
 unfolding presentTimerOutput
-returns c = rw (← c .before .before .elapsed-time .ensures)
+returns c = simp (c .before .before .elapsed-time .ensures)
 
 pub output-spec : {M : Type 1} → statement M
 output-spec = tie.close (tie.spec elapsed-time-requires returns)

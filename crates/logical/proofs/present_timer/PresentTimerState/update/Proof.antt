@@ -1,4 +1,4 @@
--- `PresentTimerState::update` meets its contract: the callee's equation is folded into the definition. Assumes nothing.
+-- `PresentTimerState::update` meets its contract: the callee's result is what its equation says. Assumes nothing.
 use Rattle.logical.specs.PresentTimer.{presentTimerUpdate}
 use borrow.Author.Needs.{needs}
 use Rattle.logical.proofs.present_timer.PresentTimerState.update.Statement.{statement}
@@ -9,7 +9,7 @@ entry-time-requires c κs = search needs
 
 returns : tie.Need-returns
 unfolding presentTimerUpdate
-returns c = rw (← c .entry-time .ensures)
+returns c = simp (c .entry-time .ensures)
 
 pub update-spec : {M : Type 1} → statement M
 update-spec = tie.close (tie.spec entry-time-requires returns)

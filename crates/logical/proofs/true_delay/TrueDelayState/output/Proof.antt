@@ -1,4 +1,4 @@
--- `TrueDelayState::output` meets its contract: each callee's equation is folded into the definition. Assumes nothing.
+-- `TrueDelayState::output` meets its contract: each callee's result is what its equation says. Assumes nothing.
 use Rattle.logical.specs.TrueDelay.{trueDelayOutput}
 use borrow.Author.Needs.{needs}
 use Rattle.logical.proofs.true_delay.TrueDelayState.output.Statement.{statement}
@@ -12,10 +12,7 @@ next-timer-requires c κs = search needs
 
 returns : tie.Need-returns
 unfolding trueDelayOutput
-returns c = rw (
-  ← c .before .before .never .ensures,
-  ← c .before .next-timer .ensures,
-)
+returns c = simp (c .before .next-timer .ensures, c .before .before .never .ensures)
 
 pub output-spec : {M : Type 1} → statement M
 output-spec = tie.close (tie.spec never-requires next-timer-requires returns)

@@ -1,4 +1,4 @@
--- `TrueDelayState::update` meets its contract: each callee's equation is folded into the definition. Assumes nothing.
+-- `TrueDelayState::update` meets its contract: each callee's result is what its equation says. Assumes nothing.
 use Rattle.logical.specs.TrueDelay.{trueDelayUpdate}
 use borrow.Author.Needs.{needs}
 use Rattle.logical.proofs.true_delay.TrueDelayState.update.Statement.{statement}
@@ -15,11 +15,7 @@ switch-requires c κs = search needs
 
 returns : tie.Need-returns
 unfolding trueDelayUpdate
-returns c = rw (
-  ← c .before .before .output .ensures,
-  ← c .before .next-timer .ensures,
-  ← c .switch .ensures,
-)
+returns c = simp (c .switch .ensures, c .before .next-timer .ensures, c .before .before .output .ensures)
 
 pub update-spec : {M : Type 1} → statement M
 update-spec = tie.close (tie.spec output-requires next-timer-requires switch-requires returns)

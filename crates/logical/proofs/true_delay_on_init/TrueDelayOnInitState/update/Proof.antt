@@ -1,4 +1,4 @@
--- `TrueDelayOnInitState::update` meets its contract: the callee's equation is folded into the definition. Assumes nothing.
+-- `TrueDelayOnInitState::update` meets its contract: the callee's result is what its equation says. Assumes nothing.
 use Rattle.logical.specs.TrueDelayOnInit.{trueDelayOnInitUpdate}
 use borrow.Author.Needs.{needs}
 use Rattle.logical.proofs.true_delay_on_init.TrueDelayOnInitState.update.Statement.{
@@ -11,7 +11,7 @@ entry-time-requires c κs = search needs
 
 returns : tie.Need-returns
 unfolding trueDelayOnInitUpdate
-returns c = rw (← c .entry-time .ensures)
+returns c = simp (c .entry-time .ensures)
 
 pub update-spec : {M : Type 1} → statement M
 update-spec = tie.close (tie.spec entry-time-requires returns)

@@ -1,4 +1,4 @@
--- `TrueFalseHoldState::output_and_timer` meets its contract: each callee's equation is folded into the definition. Assumes nothing.
+-- `TrueFalseHoldState::output_and_timer` meets its contract: each callee's result is what its equation says. Assumes nothing.
 use Rattle.logical.specs.TrueFalseHold.{trueFalseHoldOutputAndTimer, trueFalseHoldRequired}
 use borrow.Author.Needs.{needs}
 use Rattle.logical.proofs.true_false_hold.TrueFalseHoldState.output_and_timer.Statement.{
@@ -29,14 +29,7 @@ unfolding trueFalseHoldOutputAndTimer trueFalseHoldRequired
 returns c =
     let required = c .before .before .before in
     let timer = required .before .before .before in
-    rw (
-      ← timer .before .never .ensures,
-      ← timer .gap .ensures,
-      ← required .before .switch .ensures,
-      ← required .greater .ensures,
-      ← c .before .logical-switch .ensures,
-      ← c .switch2 .ensures,
-    )
+    simp (c .switch2 .ensures, c .before .logical-switch .ensures, required .greater .ensures, required .before .switch .ensures, timer .gap .ensures, timer .before .never .ensures)
 
 pub output-and-timer-spec : {M : Type 1} → statement M
 output-and-timer-spec =

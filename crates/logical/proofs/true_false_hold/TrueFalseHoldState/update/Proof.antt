@@ -1,4 +1,4 @@
--- `TrueFalseHoldState::update` meets its contract: the callee's equation is folded into the definition. Assumes nothing.
+-- `TrueFalseHoldState::update` meets its contract: the callee's result is what its equation says. Assumes nothing.
 use Rattle.logical.specs.TrueFalseHold.{trueFalseHoldUpdate}
 use borrow.Author.Needs.{needs}
 use Rattle.logical.proofs.true_false_hold.TrueFalseHoldState.update.Statement.{statement}
@@ -9,7 +9,7 @@ output-and-timer-requires c κs = search needs
 
 returns : tie.Need-returns
 unfolding trueFalseHoldUpdate
-returns c = rw (← c .output-and-timer .ensures)
+returns c = simp (c .output-and-timer .ensures)
 
 pub update-spec : {M : Type 1} → statement M
 update-spec = tie.close (tie.spec output-and-timer-requires returns)

@@ -1,0 +1,52 @@
+"""The runner must find wrong programs, and pass programs that differ in nothing that counts."""
+
+import os
+import subprocess
+import tempfile
+
+from checks.report import check, script
+from comparing import ANSWERS, COMPARE, REFERENCE
+
+MINUS_ZERO = '  9223372036854775808'
+
+# Programs that change the reference's output: what comes after `reference` in a shell.
+WRONG = [
+    ('another status', "| sed -E 's/^( {20})3$/\\12/'"),
+    ('a float one step beside', "| sed -E 's/^(.{83})0/\\11/'"),
+    ('a last line too few', "| sed '$d'"),
+    ('a line too many', "; printf '%21d\\n' 5"),
+    ('no last newline', "| awk 'NR > 1 { print line } { line = $0 } END { printf \"%s\", line }'"),
+    ('nothing printed', '> /dev/null'),
+    ('a wrong end status', '; exit 3'),
+    ('the sign of a zero where an integer stands', f"| sed -E 's/^ {{20}}0( )/{MINUS_ZERO}\\1/'"),
+    ('a zero for a NaN', "| sed 's/9221120237041090560/                  0/g'"),
+]
+RIGHT = [
+    ('the sign of every zero', '| sed -E {zeros}'),
+    ('the pattern of every NaN', "| sed 's/  9221120237041090560/ 18444492273895866369/g'"),
+    ('nothing', ''),
+]
+
+
+def play(folder, kind, rounds, change):
+    program = os.path.join(folder, 'program')
+    floats = [place for place, (_, form) in enumerate(ANSWERS[kind]) if form == 'f']
+    zeros = ' '.join(f"-e 's/^(.{{{21 * place}}}) {{20}}0/\\1{MINUS_ZERO}/'" for place in floats)
+    script(program, f'#!/bin/bash\n"{REFERENCE}" {change.replace("{zeros}", zeros)}\n')
+    ended = subprocess.run([os.path.join(COMPARE, 'run'), program, str(rounds), kind],
+                           stdout=subprocess.PIPE, text=True)
+    return ended.returncode, ended.stdout
+
+
+def check_runner():
+    with tempfile.TemporaryDirectory() as folder:
+        for name, change in WRONG:
+            status, printed = play(folder, 'freeze', 12, change)
+            counts = printed.splitlines()[-1].split()
+            found = status != 0 and 'first difference' in printed and counts[2] != '0'
+            check(f'the runner finds {name}', '' if found else printed)
+        for kind in ANSWERS:
+            for name, change in RIGHT:
+                status, printed = play(folder, kind, 12, change)
+                clear = status == 0 and printed.endswith('\n12 passed, 0 failed\n')
+                check(f'the runner passes {kind} rows where {name} differs', '' if clear else printed)

@@ -1,0 +1,121 @@
+"""Plays a program and the reference on one row file, and shows where they differ."""
+
+import os
+import random
+import signal
+import subprocess
+import tempfile
+import time
+
+import comparing
+from comparing import ANSWERS, REFERENCE, ROWS, TARGET
+
+SECONDS = 60     # longer than a program needs for any of the files
+PIECES = [1, 20, 21, 252, 253, 4000, 4096, 30000, 65536]
+NO_END = f'did not end within {SECONDS} s'
+
+
+def answers(program, path, seed=0):
+    """What the program prints for the rows of a file, and how it ended where that was not well.
+    Every fourth seed hands the rows over in pieces of many sizes."""
+    pieces = random.Random(seed) if seed % 4 == 3 else None
+    with open(path, 'rb') as rows, tempfile.TemporaryFile() as out:
+        try:
+            process = subprocess.Popen([program], stdin=subprocess.PIPE if pieces else rows, stdout=out,
+                                       bufsize=0, start_new_session=True)
+        except OSError as error:
+            return b'', f'cannot be run: {error}'
+        try:
+            while pieces and (piece := rows.read(pieces.choice(PIECES))):
+                process.stdin.write(piece)
+        except BrokenPipeError:
+            pass
+        if pieces:
+            process.stdin.close()
+        try:
+            status = process.wait(timeout=SECONDS)
+        except subprocess.TimeoutExpired:
+            os.killpg(process.pid, signal.SIGKILL)
+            process.wait()
+            return b'', NO_END
+        out.seek(0)
+        return out.read(), status and f'ended with status {status}'
+
+
+def play(program, kind, path, seed=0):
+    """What goes wrong with this file: the place of a difference, a sentence, or None."""
+    expected, wrong = answers(REFERENCE, path)
+    if wrong:
+        return f'the reference {wrong}'
+    got, wrong = answers(program, path, seed)
+    if wrong:
+        return f'the program {wrong}'
+    return comparing.difference(kind, expected, got)
+
+
+class Difference:
+    """A file on which the two differ, cut down to lines that suffice for a difference."""
+
+    def __init__(self, program, kind, seed, path, found, seconds=20):
+        self.program, self.kind, self.seed, self.found = program, kind, seed, found
+        self.saved = os.path.join(TARGET, 'difference.rows')
+        with open(path, 'rb') as rows:
+            self.lines = rows.read().splitlines(keepends=True)
+        end = time.monotonic() + seconds
+        size = len(self.lines) // 2
+        while size and time.monotonic() < end and self.wrong(self.lines):
+            at = len(self.lines) - size
+            while at > 0 and time.monotonic() < end:
+                shorter = self.lines[:at] + self.lines[at + size:]
+                if self.wrong(shorter):
+                    self.lines = shorter
+                at -= size
+            size //= 2
+
+    def wrong(self, lines):
+        with open(self.saved, 'wb') as rows:
+            rows.writelines(lines)
+        return play(self.program, self.kind, self.saved, self.seed)
+
+    def show(self):
+        found = self.found if isinstance(self.found, str) else f'answer line {self.found[0] + 1} differs'
+        print(f'first difference: {self.kind}, seed {self.seed}: {found}')
+        pieces = ', handed over in pieces' if self.seed % 4 == 3 else ''
+        saved = os.path.relpath(self.saved)
+        print(f'  the input, cut down to {len(self.lines)} lines{pieces}, is in {saved}')
+        wrong = self.wrong(self.lines)
+        if wrong is None:
+            print('  played again, the difference did not occur')
+        elif isinstance(wrong, str):
+            print(f'  {wrong}')
+        else:
+            self.show_place(*wrong)
+        for line in self.lines[:20]:
+            print(f'    {show_row(self.kind, line)}')
+        if len(self.lines) > 20:
+            print('    ..')
+
+    def show_place(self, index, place):
+        print(f'  answer line {index + 1}, which answers input line {index + 2}')
+        if place is not None:
+            print(f'  column {place + 1}, {ANSWERS[self.kind][place][0]}')
+        for word, program in (('expected', REFERENCE), ('got     ', self.program)):
+            text = answers(program, self.saved, self.seed)[0].split(b'\n')
+            if index >= len(text) or index == len(text) - 1 and not text[index]:
+                print(f'  {word} no line')
+            elif place is None:
+                print(f'  {word} {text[index][:300].decode("ascii", "backslashreplace")}')
+            else:
+                form = ANSWERS[self.kind][place][1]
+                column = comparing.columns(text[index])[place]
+                value = f' ({comparing.read(column, form)!r})' if form == 'f' else ''
+                print(f'  {word} {column.decode("ascii", "backslashreplace").strip()}{value}')
+
+
+def show_row(kind, line):
+    """A row line in words where it is well formed, else its bytes."""
+    values = [comparing.read(column, form)
+              for column, (_, form) in zip(comparing.columns(line.rstrip(b'\n')), ROWS[kind])]
+    if len(line) != len(ROWS[kind]) * comparing.WIDTH + 1 or None in values:
+        return repr(line[:300])
+    return ', '.join(f'{name} {value!r}' for (name, _), value in zip(ROWS[kind], values))

@@ -1,0 +1,108 @@
+//! The reference program: the published trace functions behind the row lines of document 01.
+//!
+//!     reference < ROWS > ANSWERS      the lines that `rows` must print
+//!     reference scenario NAME         the rows of the Rust's own scenario, as a row file
+//!     events count FILE..             how often each kind of event occurs in these row files
+//!
+//! `events` is this program built with `--cfg events`.
+
+#[path = "reference/acceptance.rs"]
+mod acceptance;
+#[path = "reference/columns.rs"]
+mod columns;
+#[cfg(events)]
+mod events;
+#[path = "reference/input.rs"]
+mod input;
+#[path = "reference/lines.rs"]
+mod lines;
+/// The published sequences, as compare/extract takes them from docs/src.
+#[allow(dead_code)]
+#[path = "../target/compare/sequences"]
+mod sequences {
+    mod cdl_recurrences;
+    pub mod economizer_controller;
+    pub mod freeze_protection;
+    pub mod relief_fan_group;
+
+    use cdl_recurrences::{buildings_line, clamp};
+}
+
+use std::io::{self, Read, Write};
+use std::process::ExitCode;
+
+use input::Input;
+use sequences::economizer_controller::econ;
+use sequences::freeze_protection::freeze;
+use sequences::relief_fan_group::relief;
+
+const USAGE: &str = "usage: reference < ROWS > ANSWERS
+       reference scenario freeze|fine_step|relief|econ";
+
+fn main() -> ExitCode {
+    let arguments: Vec<String> = std::env::args_os()
+        .skip(1)
+        .map(|word| word.to_string_lossy().into_owned())
+        .collect();
+    let words: Vec<&str> = arguments.iter().map(String::as_str).collect();
+    match run(&words) {
+        Ok(()) => ExitCode::SUCCESS,
+        Err(message) => {
+            eprintln!("reference: {message}");
+            ExitCode::FAILURE
+        }
+    }
+}
+
+fn run(words: &[&str]) -> Result<(), String> {
+    match words {
+        [] => {
+            let played = answer(io::stdin().lock(), &mut io::stdout().lock());
+            played.map_err(|error| format!("cannot read or write: {error}"))
+        }
+        ["scenario", "freeze"] => print(&freeze::staged_scenario()),
+        ["scenario", "fine_step"] => print(&freeze::fine_step_scenario()),
+        ["scenario", "relief"] => print(&relief::scenario()),
+        ["scenario", "econ"] => print(&econ::scenario()),
+        #[cfg(events)]
+        ["count", files @ ..] if !files.is_empty() => print(&events::count(files)?),
+        _ => Err(format!(
+            "this command line has no meaning: {}\n{USAGE}",
+            words.join(" ")
+        )),
+    }
+}
+
+fn print(text: &[u8]) -> Result<(), String> {
+    let mut out = io::stdout().lock();
+    let written = out.write_all(text).and_then(|()| out.flush());
+    written.map_err(|error| format!("cannot write: {error}"))
+}
+
+/// Answers a whole row file.
+fn answer(rows: impl Read, out: &mut impl Write) -> io::Result<()> {
+    let mut input = Input::new(rows);
+    // No kind has more letters than `freeze` and `relief`.
+    while input.text().len() < 7 && input.more()? {}
+    if take(&mut input, b"freeze\n") {
+        freeze::answer(&mut input, out)?;
+    } else if take(&mut input, b"relief\n") {
+        relief::answer(&mut input, out)?;
+    } else if take(&mut input, b"econ\n") {
+        econ::answer(&mut input, out)?;
+    } else {
+        let mut text = Vec::new();
+        columns::put_signed(&mut text, acceptance::NO_KIND.into());
+        text.push(b'\n');
+        out.write_all(&text)?;
+    }
+    out.flush()
+}
+
+fn take(input: &mut Input<impl Read>, first_line: &[u8]) -> bool {
+    let is_there = input.text().starts_with(first_line);
+    if is_there {
+        input.consume(first_line.len());
+    }
+    is_there
+}

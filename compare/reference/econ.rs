@@ -1,0 +1,92 @@
+//! Rows and answers of the economizer, a module inside the published one.
+
+use std::io::{self, Read, Write};
+
+use super::{ControllerTrace, Row, economizer_controller_trace, input_trace, time_grid};
+use crate::acceptance::Before;
+use crate::columns::{Columns, put_flag, put_float, put_signed};
+use crate::input::Input;
+use crate::lines::{self, Kind};
+
+struct Econ;
+
+impl Kind for Econ {
+    type Row = Row;
+    type Trace = ControllerTrace;
+    const COLUMNS: usize = 8;
+
+    fn read(columns: &mut Columns) -> Option<Row> {
+        Some(Row {
+            outdoor_airflow_normalized: columns.float()?,
+            minimum_outdoor_airflow_setpoint_normalized: columns.float()?,
+            supply_temperature_signal: columns.float()?,
+            outdoor_air_temperature: columns.float()?,
+            supply_fan_status: columns.flag()?,
+            operation_mode: columns.signed()?,
+            freeze_protection_stage: columns.signed()?,
+        })
+    }
+
+    fn finite(row: &Row) -> bool {
+        row.outdoor_airflow_normalized.is_finite()
+            && row.minimum_outdoor_airflow_setpoint_normalized.is_finite()
+            && row.supply_temperature_signal.is_finite()
+            && row.outdoor_air_temperature.is_finite()
+    }
+
+    fn status(before: &mut Before, time: f64, finite: bool) -> u8 {
+        before.status(time, finite)
+    }
+
+    fn trace(times: &[f64], rows: &[Row]) -> ControllerTrace {
+        economizer_controller_trace(times, rows)
+    }
+
+    fn write(trace: &ControllerTrace, index: usize, out: &mut Vec<u8>) {
+        put_float(out, trace.outdoor_damper_min_limit[index]);
+        put_flag(out, trace.minimum_outdoor_air_loop_enabled[index]);
+        put_float(out, trace.outdoor_damper_command[index]);
+        put_float(out, trace.return_damper_command[index]);
+    }
+}
+
+/// Answers the lines after the first.
+pub fn answer(input: &mut Input<impl Read>, out: &mut impl Write) -> io::Result<()> {
+    lines::answer::<Econ>(input, out)
+}
+
+/// The 60 s scenario.
+pub fn scenario() -> Vec<u8> {
+    let times = time_grid();
+    let mut out = b"econ\n".to_vec();
+    for (&time, row) in times.iter().zip(input_trace(&times)) {
+        put_float(&mut out, time);
+        put_float(&mut out, row.outdoor_airflow_normalized);
+        put_float(&mut out, row.minimum_outdoor_airflow_setpoint_normalized);
+        put_float(&mut out, row.supply_temperature_signal);
+        put_float(&mut out, row.outdoor_air_temperature);
+        put_flag(&mut out, row.supply_fan_status);
+        put_signed(&mut out, row.operation_mode);
+        put_signed(&mut out, row.freeze_protection_stage);
+        out.push(b'\n');
+    }
+    out
+}
+
+#[cfg(test)]
+mod tests {
+    use super::*;
+
+    #[test]
+    #[should_panic(expected = "index out of bounds")]
+    fn e4_rows_that_outnumber_times_panic() {
+        economizer_controller_trace(&time_grid()[..1], &input_trace(&time_grid()[..2]));
+    }
+
+    #[test]
+    fn e4_spare_times_are_skipped() {
+        let trace = economizer_controller_trace(&time_grid()[..2], &input_trace(&time_grid()[..1]));
+        assert_eq!(trace.return_damper_command.len(), 1);
+        assert_eq!(trace.outdoor_damper_min_limit.len(), 1);
+    }
+}

@@ -1,0 +1,104 @@
+//! Rows and answers of freeze protection, a module inside the published one.
+
+use std::io::{self, Read, Write};
+
+use super::{
+    Inputs, Trace, expected_times, fine_step, freeze_protection_trace, input_row, input_rows,
+};
+use crate::acceptance::Before;
+use crate::columns::{Columns, put_flag, put_float, put_signed};
+use crate::input::Input;
+use crate::lines::{self, Kind};
+
+struct Freeze;
+
+impl Kind for Freeze {
+    type Row = Inputs;
+    type Trace = Trace;
+    const COLUMNS: usize = 12;
+
+    fn read(columns: &mut Columns) -> Option<Inputs> {
+        Some(Inputs {
+            outdoor_damper_min_position: columns.float()?,
+            outdoor_damper: columns.float()?,
+            heating_coil: columns.float()?,
+            minimum_outdoor_damper: columns.float()?,
+            return_damper: columns.float()?,
+            supply_air_temperature: columns.float()?,
+            software_reset: columns.flag()?,
+            supply_fan_status: columns.flag()?,
+            supply_fan_speed: columns.float()?,
+            cooling_coil: columns.float()?,
+            mixed_air_temperature: columns.float()?,
+        })
+    }
+
+    fn finite(row: &Inputs) -> bool {
+        row.outdoor_damper_min_position.is_finite()
+            && row.outdoor_damper.is_finite()
+            && row.heating_coil.is_finite()
+            && row.minimum_outdoor_damper.is_finite()
+            && row.return_damper.is_finite()
+            && row.supply_air_temperature.is_finite()
+            && row.supply_fan_speed.is_finite()
+            && row.cooling_coil.is_finite()
+            && row.mixed_air_temperature.is_finite()
+    }
+
+    fn status(before: &mut Before, time: f64, finite: bool) -> u8 {
+        before.status(time, finite)
+    }
+
+    fn trace(times: &[f64], rows: &[Inputs]) -> Trace {
+        freeze_protection_trace(times, rows)
+    }
+
+    fn write(trace: &Trace, index: usize, out: &mut Vec<u8>) {
+        put_signed(out, trace.freeze_protection_stage[index]);
+        put_flag(out, trace.chilled_water_pump_enable[index]);
+        put_float(out, trace.return_damper_command[index]);
+        put_float(out, trace.outdoor_damper_command[index]);
+        put_float(out, trace.minimum_outdoor_damper_command[index]);
+        put_flag(out, trace.supply_fan_status[index]);
+        put_float(out, trace.supply_fan_speed[index]);
+        put_float(out, trace.cooling_coil_command[index]);
+        put_float(out, trace.heating_coil_command[index]);
+        put_signed(out, trace.hot_water_plant_request[index]);
+        put_signed(out, trace.alarm_level[index]);
+    }
+}
+
+/// Answers the lines after the first.
+pub fn answer(input: &mut Input<impl Read>, out: &mut impl Write) -> io::Result<()> {
+    lines::answer::<Freeze>(input, out)
+}
+
+/// The 60 s scenario that walks every stage.
+pub fn staged_scenario() -> Vec<u8> {
+    row_file(&expected_times(), input_row)
+}
+
+/// The 1/16 s scenario that resolves the heating-coil loops.
+pub fn fine_step_scenario() -> Vec<u8> {
+    row_file(&fine_step::expected_times(), fine_step::input_row)
+}
+
+fn row_file(times: &[f64], input_row: fn(f64) -> Inputs) -> Vec<u8> {
+    let mut out = b"freeze\n".to_vec();
+    for (&time, row) in times.iter().zip(input_rows(times, input_row)) {
+        put_float(&mut out, time);
+        put_float(&mut out, row.outdoor_damper_min_position);
+        put_float(&mut out, row.outdoor_damper);
+        put_float(&mut out, row.heating_coil);
+        put_float(&mut out, row.minimum_outdoor_damper);
+        put_float(&mut out, row.return_damper);
+        put_float(&mut out, row.supply_air_temperature);
+        put_flag(&mut out, row.software_reset);
+        put_flag(&mut out, row.supply_fan_status);
+        put_float(&mut out, row.supply_fan_speed);
+        put_float(&mut out, row.cooling_coil);
+        put_float(&mut out, row.mixed_air_temperature);
+        out.push(b'\n');
+    }
+    out
+}

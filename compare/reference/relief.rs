@@ -1,0 +1,98 @@
+//! Rows and answers of the relief fan group, a module inside the published one.
+
+use std::io::{self, Read, Write};
+
+use super::{Inputs, Trace, expected_times, input_rows, relief_fan_group_trace};
+use crate::acceptance::Before;
+use crate::columns::{Columns, put_flag, put_float, put_signed};
+use crate::input::Input;
+use crate::lines::{self, Kind};
+
+struct Relief;
+
+impl Kind for Relief {
+    type Row = Inputs;
+    type Trace = Trace;
+    const COLUMNS: usize = 12;
+
+    fn read(columns: &mut Columns) -> Option<Inputs> {
+        Some(Inputs {
+            supply: [columns.flag()?, columns.flag()?],
+            pressure: columns.float()?,
+            alarm: [
+                columns.signed()?,
+                columns.signed()?,
+                columns.signed()?,
+                columns.signed()?,
+            ],
+            proof: [
+                columns.flag()?,
+                columns.flag()?,
+                columns.flag()?,
+                columns.flag()?,
+            ],
+        })
+    }
+
+    fn finite(row: &Inputs) -> bool {
+        row.pressure.is_finite()
+    }
+
+    fn status(before: &mut Before, time: f64, finite: bool) -> u8 {
+        before.relief_status(time, finite)
+    }
+
+    fn trace(times: &[f64], rows: &[Inputs]) -> Trace {
+        relief_fan_group_trace(times, rows)
+    }
+
+    fn write(trace: &Trace, index: usize, out: &mut Vec<u8>) {
+        put_float(out, trace.averaged_pressure[index]);
+        for speed in &trace.fan_speed {
+            put_float(out, speed[index]);
+        }
+        for damper in &trace.damper {
+            put_float(out, damper[index]);
+        }
+    }
+}
+
+/// Answers the lines after the first.
+pub fn answer(input: &mut Input<impl Read>, out: &mut impl Write) -> io::Result<()> {
+    lines::answer::<Relief>(input, out)
+}
+
+/// The 15 s scenario.
+pub fn scenario() -> Vec<u8> {
+    let times = expected_times();
+    let mut out = b"relief\n".to_vec();
+    for (&time, row) in times.iter().zip(input_rows(&times)) {
+        put_float(&mut out, time);
+        for status in row.supply {
+            put_flag(&mut out, status);
+        }
+        put_float(&mut out, row.pressure);
+        for alarm in row.alarm {
+            put_signed(&mut out, alarm);
+        }
+        for proof in row.proof {
+            put_flag(&mut out, proof);
+        }
+        out.push(b'\n');
+    }
+    out
+}
+
+#[cfg(test)]
+mod tests {
+    use super::super::TrueDelayState;
+
+    #[test]
+    fn r4_a_delay_waits_on_row_0_too() {
+        let mut delay = TrueDelayState::new(2.0);
+        assert!(!delay.output(0.0, true));
+        delay.update(0.0, true);
+        assert!(!delay.output(2.0f64.next_down(), true));
+        assert!(delay.output(2.0, true));
+    }
+}

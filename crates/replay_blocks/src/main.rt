@@ -1,0 +1,144 @@
+// Blocks on their own, on cases of document 01: a line for each case, with the block's output at each row, 1 for true and 0 for false.
+// The file stdout holds what the blocks of the Rust give on the same rows.
+use libc::STDOUT_FILENO;
+use logical::held_timer::HeldTimerState;
+use logical::present_timer::PresentTimerState;
+use logical::true_delay::TrueDelayState;
+use logical::true_delay_on_init::TrueDelayOnInitState;
+use logical::true_false_hold::TrueFalseHoldState;
+
+fn print(y: bool) {
+    if y {
+        io::write_all(STDOUT_FILENO, b" 1");
+    } else {
+        io::write_all(STDOUT_FILENO, b" 0");
+    }
+}
+
+// A row of each block: the output is printed, and the next state comes back.
+fn held(s: HeldTimerState, t: f64, u: bool) -> HeldTimerState {
+    print(s.output(t, u).passed);
+    s.update(t, u)
+}
+
+fn present(s: PresentTimerState, t: f64, u: bool) -> PresentTimerState {
+    print(s.output(t, u).passed);
+    s.update(t, u)
+}
+
+fn hold(s: TrueFalseHoldState, t: f64, u: bool) -> TrueFalseHoldState {
+    print(s.output(t, u));
+    s.update(t, u)
+}
+
+fn delay(s: TrueDelayState, t: f64, u: bool, delay: f64) -> TrueDelayState {
+    print(s.output(t, u, delay));
+    s.update(t, u, delay)
+}
+
+fn delay_on_init(s: TrueDelayOnInitState, t: f64, u: bool) -> TrueDelayOnInitState {
+    print(s.output(t, u));
+    s.update(t, u)
+}
+
+// E2: the economizer's delays are true on row 0 if the input is; later they start false.
+fn economizer_delay_on_row_0() {
+    io::write_all(
+        STDOUT_FILENO,
+        b"E2 economizer delay 180 s, true from 0 s, at 0 60:",
+    );
+    let s = TrueDelayState::new();
+    let s = delay(s, 0.0, true, 180.0);
+    delay(s, 60.0, true, 180.0);
+    io::write_all(STDOUT_FILENO, b"\n");
+}
+
+fn outdoor_delay() {
+    io::write_all(
+        STDOUT_FILENO,
+        b"E2 economizer delay 15 s, true from 60 s, at 0 60 74 75:",
+    );
+    let s = TrueDelayState::new();
+    let s = delay(s, 0.0, false, 15.0);
+    let s = delay(s, 60.0, true, 15.0);
+    let s = delay(s, 74.0, true, 15.0);
+    delay(s, 75.0, true, 15.0);
+    io::write_all(STDOUT_FILENO, b"\n");
+}
+
+fn return_delay() {
+    io::write_all(
+        STDOUT_FILENO,
+        b"E2 economizer delay 180 s, true from 60 s, at 0 60 239 240:",
+    );
+    let s = TrueDelayState::new();
+    let s = delay(s, 0.0, false, 180.0);
+    let s = delay(s, 60.0, true, 180.0);
+    let s = delay(s, 239.0, true, 180.0);
+    delay(s, 240.0, true, 180.0);
+    io::write_all(STDOUT_FILENO, b"\n");
+}
+
+// R4: the delay of the relief group waits on row 0 too.
+fn relief_delay() {
+    io::write_all(
+        STDOUT_FILENO,
+        b"R4 relief delay 2 s, true from 0 s, at 0 1 2:",
+    );
+    let s = TrueDelayOnInitState::new(2.0);
+    let s = delay_on_init(s, 0.0, true);
+    let s = delay_on_init(s, 1.0, true);
+    delay_on_init(s, 2.0, true);
+    io::write_all(STDOUT_FILENO, b"\n");
+}
+
+// The two timers part where the time falls.
+fn held_timer() {
+    io::write_all(
+        STDOUT_FILENO,
+        b"freeze timer 300 s, true from 0 s, at 0 299 300 200:",
+    );
+    let s = HeldTimerState::new(300.0);
+    let s = held(s, 0.0, true);
+    let s = held(s, 299.0, true);
+    let s = held(s, 300.0, true);
+    held(s, 200.0, true);
+    io::write_all(STDOUT_FILENO, b"\n");
+}
+
+fn present_timer() {
+    io::write_all(
+        STDOUT_FILENO,
+        b"relief timer 300 s, true from 0 s, at 0 299 300 200:",
+    );
+    let s = PresentTimerState::new(300.0);
+    let s = present(s, 0.0, true);
+    let s = present(s, 299.0, true);
+    let s = present(s, 300.0, true);
+    present(s, 200.0, true);
+    io::write_all(STDOUT_FILENO, b"\n");
+}
+
+// The hold adds the gaps: 0.8 s and 599.2 s, each rounded, are less than 600 s.
+fn economizer_hold() {
+    io::write_all(
+        STDOUT_FILENO,
+        b"economizer hold 600 s, true at 0.3 s, false at 1.1 600.3 600.4:",
+    );
+    let s = TrueFalseHoldState::new(600.0, 600.0);
+    let s = hold(s, 0.3, true);
+    let s = hold(s, 1.1, false);
+    let s = hold(s, 600.3, false);
+    hold(s, 600.4, false);
+    io::write_all(STDOUT_FILENO, b"\n");
+}
+
+fn main() {
+    economizer_delay_on_row_0();
+    outdoor_delay();
+    return_delay();
+    relief_delay();
+    held_timer();
+    present_timer();
+    economizer_hold();
+}
