@@ -160,17 +160,17 @@ module _ (state : EconomizerState) (row : EconomizerRow) where
       go Accepted = refl
       go (Refused r) = refl
 
-  told-is : economizerTold state row ≡ toldBy (economizerVerdict state row) (readingIn (economizerSignals state row))
+  pub economizer-told : economizerTold state row ≡ toldBy (economizerVerdict state row) (readingIn (economizerSignals state row))
   unfolding economizerWorked
-  told-is = go (economizerVerdict state row)
+  economizer-told = go (economizerVerdict state row)
     where
       go : (v : Verdict) → readingFrom (toldBy v (economizerSignals state row)) ≡ toldBy v (readingIn (economizerSignals state row))
       go Accepted = refl
       go (Refused r) = refl
 
-  returned-is : economizerReturned state row ≡ nextBy (economizerVerdict state row) (economizerNext state row (economizerSignals state row)) state
+  pub economizer-returned : economizerReturned state row ≡ nextBy (economizerVerdict state row) (economizerNext state row (economizerSignals state row)) state
   unfolding economizerRow stepBy
-  returned-is = go (economizerVerdict state row)
+  economizer-returned = go (economizerVerdict state row)
     where
       go : (v : Verdict) → stepBy v state row .state ≡ nextBy v (economizerNext state row (economizerSignals state row)) state
       go Accepted = refl
@@ -190,7 +190,7 @@ pub economizer-demand-3 : (rows : List EconomizerRow) → run economizerTold eco
 unfolding economizerVerdict
 economizer-demand-3 =
     sequence-reads timeOfRow numbersFinite time-finite (λ s. s .last) (λ s x. readingIn (economizerSignals s x)) (λ s x. economizerNext s x (economizerSignals s x))
-    economizerTold economizerReturned told-is returned-is economizerFresh stateOf economizerReading fresh-is (λ h. refl) reads moves
+    economizerTold economizerReturned economizer-told economizer-returned economizerFresh stateOf economizerReading fresh-is (λ h. refl) reads moves
 
 -- and at every place of it: place i tells what is read off the accepted ones of rows 0 to i
 pub economizer-demand-3-at : (other : Told EconomizerReading) (rows : List EconomizerRow) (i : ℕ) → i < length rows
