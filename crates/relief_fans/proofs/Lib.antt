@@ -1,0 +1,3 @@
+-- The fact over the constants, and the alarm guard.
+pub mod Nearest
+pub mod Guard
