@@ -112,7 +112,6 @@ fn refusals() {
 }
 
 fn published_rows() {
-    name(b"row_at");
     let mut s = economizer_fresh();
     let mut t = 0.0;
     for n in 0..24u64 {
@@ -126,5 +125,6 @@ fn main() {
     e2();
     e3();
     refusals();
+    name(b"row_at");
     published_rows();
 }

@@ -11,12 +11,6 @@ Inv-loop s₀ t₀ n₀ s t n = n ≤ 24
 abbrev μ-loop : tie.MeasureT-loop
 μ-loop s₀ t₀ n₀ s t n = 24 - n
 
-slice-aggregate-name : tie.Need-slice-aggregate-name Inv-loop μ-loop
-slice-aggregate-name c = ?
-
-name-requires : tie.Need-name-requires Inv-loop μ-loop
-name-requires c κs = search needs
-
 economizer-fresh-requires : tie.Need-economizer-fresh-requires Inv-loop μ-loop
 economizer-fresh-requires c κs = search needs
 
@@ -47,8 +41,6 @@ published-rows-spec =
     (tie.spec
     Inv-loop
     μ-loop
-    slice-aggregate-name
-    name-requires
     economizer-fresh-requires
     loop-holds
     row-at-requires
