@@ -1,0 +1,135 @@
+-- Demand 3 for relief rows: for every list of rows from a fresh start, refused ones included, and every place in it, the row's answer is the refusal that the list
+-- alone tells, or else its mean and both pulses are those that document 01 reads off the accepted rows up to there. Assumes nothing.
+use Prim.Native.Nat.{ℕ, suc, _<_}
+use native.Mathlib.Omega.{arith}
+use mathlib.Core.Path.{_≡_, refl, sym, ap, _∙_}
+use mathlib.Core.Bool.{Bool, true, false, not, _&&_}
+use mathlib.Core.List.{List, [], _∷_, map, reverse}
+use lib.Dec.{T}
+use lib.ListN.{length, getD, take}
+use lib.Ieee.{Float, lt}
+use lib.Ieee.Fits.{and-i, and-l, and-r}
+use lib.Ieee.Scale.{finite}
+use Rattle.reals.specs.Sign.{isTime}
+use Rattle.reals.proofs.FloatOrder.{le→not-lt}
+use Rattle.refusals.specs.declared.Refusal.the-variants.{WindowFull}
+use Rattle.refusals.specs.declared.Refusal.{Refusal}
+use Rattle.refusals.specs.declared.Verdict.{Verdict}
+use Rattle.refusals.specs.declared.Verdict.the-variants.{Accepted, Refused}
+use Rattle.refusals.specs.Refusals.{judge}
+use Rattle.past.specs.Stepped.{stepped, notBefore, inOrder}
+use Rattle.past.specs.Whole.{Told, toldBy, nextBy, run, readAll}
+use Rattle.past.proofs.Stepped.{seenOf, time-here}
+use Rattle.past.proofs.Whole.{run-reads, read-at, readNewest}
+use Rattle.past.proofs.Judged.{judged-in-order}
+use Rattle.moving_average.specs.Past.{belowLast, timeAccepted, accepted, windowIsFull, movingAverageOf}
+use Rattle.moving_average.specs.State.{movingAverageIsFull}
+use Rattle.moving_average.proofs.Accepted.{accepted-cons}
+use Rattle.moving_average.proofs.Reading.{is-full-reads}
+use Rattle.relief_fan_group.specs.declared.types.ReliefRow.{ReliefRow}
+use Rattle.relief_fan_group.specs.declared.types.ReliefState.{ReliefState}
+use Rattle.relief_fan_group.specs.declared.types.ReliefSignals.{ReliefSignals}
+use Rattle.relief_fan_group.specs.Verdict.{numbersFinite, orWindowFull, reliefVerdict}
+use Rattle.relief_fan_group.specs.Signals.{pressureControl, reliefSignals}
+use Rattle.relief_fan_group.specs.Commands.{reliefCommands}
+use Rattle.relief_fan_group.specs.Step.{reliefFresh, reliefNext, reliefRow, signalsAt, stepBy}
+use Rattle.relief_fan_group.specs.Reading.{Past, timeOfRow, pressureOfRow, mean, ReliefReading, reliefReading, lastTime, verdictOf}
+use Rattle.relief_fan_group.specs.Told.{pulsesTold, reliefTold, reliefReturned}
+use Rattle.relief_fan_group.proofs.Blocks.{blocksOf, stateOf, signalsOf, signals-are, fresh-is, up-pulse, down-pulse, up-reads, down-reads, last-reads}
+
+-- ---- what holds of the accepted rows: their times are in order, and the window had room for each
+abbrev pub good : Past → Bool
+good h = inOrder timeOfRow h && accepted (map timeOfRow h)
+
+good-order : (h : Past) → T (good h) → T (inOrder timeOfRow h)
+good-order h g = and-l (inOrder timeOfRow h) (accepted (map timeOfRow h)) g
+
+good-window : (h : Past) → T (good h) → T (accepted (map timeOfRow h))
+good-window h g = and-r (inOrder timeOfRow h) (accepted (map timeOfRow h)) g
+
+last-is : (h : Past) → lastTime h ≡ seenOf timeOfRow h
+last-is [] = refl
+last-is (x ∷ h) = refl
+
+time-finite : (x : ReliefRow) → T (numbersFinite x) → T (finite (x .time))
+unfolding numbersFinite
+time-finite x t = and-l (finite (x .time)) (finite (x .pressure)) t
+
+-- refusals 1 to 3 do not fit: the times stay in order
+judged-order : (x : ReliefRow) (h : Past) → T (inOrder timeOfRow h) → judge (numbersFinite x) (x .time) (lastTime h) ≡ Accepted → T (inOrder timeOfRow (x ∷ h))
+judged-order x h o e = judged-in-order timeOfRow numbersFinite time-finite x h o (rw (last-is h) at e)
+
+-- and that is all that the window asks of the time
+in-time : (x : ReliefRow) (h : Past) → T (inOrder timeOfRow (x ∷ h)) → T (timeAccepted (map timeOfRow h) (x .time))
+in-time x h o =
+    and-i (isTime (x .time)) (not (belowLast (map timeOfRow h) (x .time))) (time-here timeOfRow x h o)
+    (rw (above h (and-r (isTime (x .time)) (notBefore timeOfRow (x .time) h) (and-l (isTime (x .time) && notBefore timeOfRow (x .time) h) (inOrder timeOfRow h) o))) tt)
+  where
+    above : (h : Past) → T (notBefore timeOfRow (x .time) h) → belowLast (map timeOfRow h) (x .time) ≡ false
+    above [] l = refl
+    above (y ∷ h) l = le→not-lt (x .time) (y .time) l
+
+-- ---- the verdict on the state of a past is that of the list
+verdict-is : (x : ReliefRow) (h : Past) → T (good h) → reliefVerdict (blocksOf h) x (movingAverageIsFull (movingAverageOf timeOfRow pressureOfRow h) (x .time)) ≡ verdictOf h x
+unfolding reliefVerdict verdictOf orWindowFull
+verdict-is x h g =
+    rw (last-reads h) (go (judge (numbersFinite x) (x .time) (lastTime h))
+    (λ e. is-full-reads timeOfRow pressureOfRow h (good-window h g) (x .time) (in-time x h (judged-order x h (good-order h g) e))))
+  where
+    go : (v : Verdict) → (v ≡ Accepted → movingAverageIsFull (movingAverageOf timeOfRow pressureOfRow h) (x .time) ≡ windowIsFull (map timeOfRow h) (x .time))
+        → orWindowFull v (movingAverageIsFull (movingAverageOf timeOfRow pressureOfRow h) (x .time)) ≡ orWindowFull v (windowIsFull (map timeOfRow h) (x .time))
+    go Accepted f = rw (f refl) refl
+    go (Refused r) f = refl
+
+-- an accepted row keeps all that
+refused-is-not-accepted : (r : Refusal) → Refused r ≡ Accepted → ⊥
+refused-is-not-accepted r e = let z : _≡_ {A = ℕ} 0 1 = cc in omega arith
+
+tests : (v : Verdict) (full : Bool) → orWindowFull v full ≡ Accepted → (v ≡ Accepted) × (full ≡ false)
+unfolding orWindowFull
+tests Accepted false e = (refl, refl)
+tests Accepted true e = absurd (refused-is-not-accepted WindowFull e)
+tests (Refused r) full e = absurd (refused-is-not-accepted r e)
+
+good-more : (x : ReliefRow) (h : Past) → T (good h) → verdictOf h x ≡ Accepted → T (good (x ∷ h))
+unfolding verdictOf
+good-more x h g e =
+    let fits = tests (judge (numbersFinite x) (x .time) (lastTime h)) (windowIsFull (map timeOfRow h) (x .time)) e in
+    let o = judged-order x h (good-order h g) (fits .0) in
+    and-i (inOrder timeOfRow (x ∷ h)) (accepted (map timeOfRow (x ∷ h))) o (accepted-cons (x .time) (map timeOfRow h) (in-time x h o) (fits .1) (good-window h g))
+
+-- ---- the answer and the returned state of a row after the past h
+-- the signals of an accepted row are the readings
+pub reads-here : (x : ReliefRow) (h : Past) → T (inOrder timeOfRow h) → T (inOrder timeOfRow (x ∷ h))
+    → _≡_ {A = ReliefReading} (record { mean = signalsOf x h .control .average; up = signalsOf x h .up .«up_passed»; down = signalsOf x h .down .«down_passed» }) (reliefReading (x ∷ h))
+unfolding reliefReading
+reads-here x h p o = rw (up-pulse (blocksOf h) x h (up-reads h p) o, down-pulse (blocksOf h) x h (down-reads h p) o) (unfold reliefSignals pressureControl in refl)
+
+answers : (x : ReliefRow) (h : Past) → T (good h) → reliefTold (stateOf h) x ≡ toldBy (verdictOf h x) (reliefReading (x ∷ h))
+unfolding reliefRow
+answers x h g = ap (λ (v : Verdict). pulsesTold (stepBy v (stateOf h) x .answer) (signalsAt (stateOf h) x)) (verdict-is x h g) ∙ go (verdictOf h x) (good-more x h g)
+  where
+    go : (v : Verdict) → (v ≡ Accepted → T (good (x ∷ h))) → pulsesTold (stepBy v (stateOf h) x .answer) (signalsAt (stateOf h) x) ≡ toldBy v (reliefReading (x ∷ h))
+    go Accepted f = unfold stepBy reliefCommands in (rw (signals-are x h) (ap Told.Taken (reads-here x h (good-order h g) (good-order (x ∷ h) (f refl)))))
+    go (Refused r) f = unfold stepBy in refl
+
+moves : (x : ReliefRow) (h : Past) → T (good h) → reliefReturned (stateOf h) x ≡ nextBy (verdictOf h x) (stateOf (x ∷ h)) (stateOf h)
+unfolding reliefRow
+moves x h g = ap (λ (v : Verdict). stepBy v (stateOf h) x .state) (verdict-is x h g) ∙ go (verdictOf h x)
+  where
+    go : (v : Verdict) → stepBy v (stateOf h) x .state ≡ nextBy v (stateOf (x ∷ h)) (stateOf h)
+    go Accepted = unfold stepBy in (rw (signals-are x h) (unfold blocksOf movingAverageOf in refl))
+    go (Refused r) = unfold stepBy in refl
+
+good-none : T (good [])
+unfolding accepted
+good-none = tt
+
+-- the whole list at once: the answers of the run are what the list tells at each place, in order
+pub demand-3 : (rows : List ReliefRow) → run reliefTold reliefReturned reliefFresh rows ≡ readAll verdictOf reliefReading [] rows
+demand-3 rows = rw fresh-is (run-reads verdictOf good reliefReading reliefTold reliefReturned stateOf good-none good-more answers moves rows)
+
+-- the same place by place: row i gets what the rows 0 to i tell
+pub demand-3-at : (other : Told ReliefReading) (rows : List ReliefRow) (i : ℕ) → i < length rows
+    → getD (run reliefTold reliefReturned reliefFresh rows) i other ≡ readNewest verdictOf reliefReading other (reverse (take (suc i) rows))
+demand-3-at other rows i l = rw (demand-3 rows) (read-at verdictOf reliefReading other [] rows i l)

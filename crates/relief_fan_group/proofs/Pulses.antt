@@ -1,0 +1,64 @@
+-- A threshold, a timer that tests the present row only, and the pre that feeds its pass back: together they are the pulse of document 01. Once for both ways.
+-- Assumes nothing.
+use mathlib.Core.Path.{_≡_, refl, sym, _∙_}
+use mathlib.Core.Bool.{Bool, true, false, not, _&&_}
+use mathlib.Core.List.{List, [], _∷_}
+use lib.Dec.{T}
+use lib.Ieee.{Float, le}
+use lib.Ieee.Scale.{finite}
+use Rattle.reals.specs.Constants.{plusZero}
+use Rattle.reals.specs.declared.threshold.ThresholdMode.{ThresholdMode}
+use Rattle.reals.specs.declared.threshold.ThresholdState.{ThresholdState}
+use Rattle.reals.specs.Threshold.{thresholdOutput, thresholdUpdate}
+use Rattle.logical.specs.declared.pre.PreState.{PreState}
+use Rattle.logical.specs.declared.present_timer.PresentTimerState.{PresentTimerState}
+use Rattle.logical.specs.Pre.{preNew, preOutput, preUpdate}
+use Rattle.logical.specs.PresentTimer.{presentTimerNew, presentTimerOutput, presentTimerUpdate}
+use Rattle.past.specs.Turns.{values, pulse}
+use Rattle.past.proofs.Laws.{since-none}
+use Rattle.past.proofs.TurnLaws.{gate, pulse-law}
+use Rattle.past.proofs.LevelReading.{near, far, band, crossed, thresholdOf, threshold-output, threshold-update}
+use Rattle.past.proofs.TimerReading.{presentTimerOf, present-timer-new, present-timer-output, present-timer-update}
+
+-- v is the number read at a row, m the side of its level on which it makes a request, n the seconds of requests before a pulse
+module _ {A : Type 0} (time : A → Float) (v : List A → Float) (m : ThresholdMode) (level hy n : Float) (b : T (band m level hy)) (positive : le n plusZero ≡ false) where
+  abbrev pub request : List A → Bool
+  request h = crossed v m level hy h
+
+  -- a request here, and no pulse on the row before
+  abbrev pub gateOf : List A → Bool
+  gateOf h = gate time n request h
+
+  pub gate-none : gateOf [] ≡ false
+  unfolding gate
+  gate-none = rw (since-none {A = A} (λ s. far m level hy (v s)) (λ s. near m level (v s))) refl
+
+  pub pulse-none : pulse time n request [] ≡ false
+  unfolding pulse values
+  pulse-none = refl
+
+  -- the three blocks are those of the past h
+  pub record Reads (thr : ThresholdState) (tim : PresentTimerState) (pre : PreState) (h : List A) : Type 0 where
+    pub thr-is : thr ≡ thresholdOf v m level hy h
+    pub tim-is : tim ≡ presentTimerOf time n gateOf gate-none positive h
+    pub pre-is : pre ≡ record { previous = not (pulse time n request h) }
+
+  pub begins : (thr : ThresholdState) → thr ≡ thresholdOf v m level hy [] → Reads thr (presentTimerNew n) (preNew true) []
+  begins thr e = record { thr-is = e; tim-is = present-timer-new time n gateOf gate-none positive; pre-is = unfold preNew in rw pulse-none refl }
+
+  module _ (thr : ThresholdState) (tim : PresentTimerState) (pre : PreState) (x : A) (h : List A) (r : Reads thr tim pre h) where
+    pub gate-reads : (thresholdOutput thr (v (x ∷ h)) && preOutput pre) ≡ gateOf (x ∷ h)
+    unfolding preOutput gate
+    gate-reads = rw (r .thr-is, r .pre-is, threshold-output v m level hy b x h) refl
+
+    module _ (f : T (finite (time x))) (g : Bool) (e : g ≡ gateOf (x ∷ h)) where
+      pub pulse-reads : presentTimerOutput tim (time x) g .passed ≡ pulse time n request (x ∷ h)
+      pulse-reads = rw (r .tim-is, e, present-timer-output time n gateOf gate-none positive x h f) (sym (pulse-law time n request (x ∷ h)))
+
+      pub one-further : (p : Bool) → p ≡ pulse time n request (x ∷ h) → Reads (thresholdUpdate thr (v (x ∷ h))) (presentTimerUpdate tim (time x) g) (preUpdate pre (not p)) (x ∷ h)
+      one-further p q =
+          record {
+            thr-is = rw (r .thr-is) (threshold-update v m level hy b x h);
+            tim-is = rw (r .tim-is, e) (present-timer-update time n gateOf gate-none positive x h);
+            pre-is = unfold preUpdate in rw q refl;
+          }

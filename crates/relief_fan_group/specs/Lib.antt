@@ -1,0 +1,8 @@
+-- The definitions of `relief_fan_group`, one module for each of src/, the constants, and what is read off the past.
+pub mod Constants
+pub mod Verdict
+pub mod Signals
+pub mod Commands
+pub mod Step
+pub mod Reading
+pub mod Told
