@@ -1,8 +1,6 @@
 // The economizer on the cases of document 01 and on the rows of the Rust's own scenario. Each row's answer is a line: the status, and for an accepted row the
 // outputs in the order of the Rust's trace, floats by their 64-bit patterns. The file stdout holds the answers of the Rust. E4 is by the type: one time travels
 // with one row.
-mod scenario; // scenario.rt: the rows
-
 use economizer_controller::step::economizer_fresh;
 use economizer_controller::step::economizer_row;
 use economizer_controller::types::EconomizerAnswer;
@@ -11,8 +9,78 @@ use economizer_controller::types::EconomizerRow;
 use economizer_controller::types::EconomizerState;
 use libc::STDOUT_FILENO;
 use row_lines::pattern::pattern;
-use scenario::case_row;
-use scenario::row_at;
+
+// ---- the rows of the Rust's own scenario: `row_at` of economizer_controller.rs, a row each 60 s.
+
+fn setpoint(tick: u64) -> f64 {
+    if (6 <= tick) & (tick <= 14) {
+        return 0.80;
+    }
+    0.20
+}
+
+const SUPPLY_TEMPERATURE_SIGNALS: [f64; 7] = [-0.5, -0.25, -0.125, 0.0, 0.125, 0.25, 0.5];
+
+fn signal(tick: u64) -> f64 {
+    let i = (tick % 7) as usize;
+    SUPPLY_TEMPERATURE_SIGNALS[i]
+}
+
+fn outdoor(tick: u64) -> f64 {
+    if (1 <= tick) & (tick <= 15) {
+        return 295.0;
+    }
+    293.0
+}
+
+fn mode(tick: u64) -> i64 {
+    if (20 <= tick) & (tick <= 21) {
+        return 0;
+    }
+    1
+}
+
+fn stage(tick: u64) -> i64 {
+    if tick == 15 {
+        return 1;
+    }
+    0
+}
+
+fn row_at(tick: u64, t: f64) -> EconomizerRow {
+    EconomizerRow {
+        time: t,
+        outdoor_airflow_normalized: 0.0,
+        minimum_outdoor_airflow_setpoint_normalized: setpoint(tick),
+        supply_temperature_signal: signal(tick),
+        outdoor_air_temperature: outdoor(tick),
+        supply_fan_status: (tick < 11) | (14 < tick),
+        operation_mode: mode(tick),
+        freeze_protection_stage: stage(tick),
+    }
+}
+
+// A row of a case of document 01: no airflow, signal 0, occupied.
+fn case_row(
+    t: f64,
+    temperature: f64,
+    fan: bool,
+    freeze_stage: i64,
+    setpoint: f64,
+) -> EconomizerRow {
+    EconomizerRow {
+        time: t,
+        outdoor_airflow_normalized: 0.0,
+        minimum_outdoor_airflow_setpoint_normalized: setpoint,
+        supply_temperature_signal: 0.0,
+        outdoor_air_temperature: temperature,
+        supply_fan_status: fan,
+        operation_mode: 1,
+        freeze_protection_stage: freeze_stage,
+    }
+}
+
+// ---- playing them
 
 fn print(n: u64) {
     io::print_decimal(STDOUT_FILENO, n);
