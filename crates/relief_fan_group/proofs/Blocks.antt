@@ -9,7 +9,7 @@ use lib.Ieee.Fits.{and-r}
 use Rattle.reals.specs.Constants.{plusZero}
 use Rattle.reals.specs.Sign.{isTime}
 use Rattle.reals.specs.declared.threshold.ThresholdMode.the-variants.{Greater, Less}
-use Rattle.past.specs.Stepped.{stepped, notBefore, inOrder}
+use Rattle.past.specs.Stepped.{notBefore, inOrder}
 use Rattle.past.specs.Turns.{pulse}
 use Rattle.past.proofs.Stepped.{finite-here}
 use Rattle.past.proofs.LevelReading.{band, threshold-new}
@@ -22,6 +22,7 @@ use Rattle.relief_fan_group.specs.Constants.{minSpeed, stageUpLevel, hys
 use Rattle.relief_fan_group.specs.Signals.{pressureControl, stageUp, stageDown, reliefSignals}
 use Rattle.relief_fan_group.specs.Step.{reliefBlocks, reliefFresh, reliefNext, signalsAt}
 use Rattle.relief_fan_group.specs.Reading.{Past, timeOfRow, pressureOfRow, mean, loopOf, upPulse, downPulse, lastTime}
+use Rattle.relief_fan_group.specs.Stages.{nextOf, blocksOf, signalsOf}
 use Rattle.relief_fan_group.proofs.Pulses.{Reads, begins, gateOf, gate-reads, pulse-reads, one-further}
 
 -- ---- the constants: delays above 0, bands on the right side
@@ -42,21 +43,10 @@ unfolding le add ofBits
 down-band = tt
 
 -- ---- the state of a past
--- the blocks one row further, at the newest row of a past
-abbrev pub nextOf : ReliefBlocks → Past → ReliefBlocks
-nextOf blocks [] = blocks
-nextOf blocks (x ∷ h) = reliefNext blocks x (reliefSignals blocks x (mean (x ∷ h)))
-
-unfoldable pub blocksOf : Past → ReliefBlocks
-blocksOf h = stepped reliefBlocks nextOf h
-
 abbrev pub stateOf : Past → ReliefState
 stateOf h = record { window = movingAverageOf timeOfRow pressureOfRow h; blocks = blocksOf h }
 
--- the signals of a row after a past
-abbrev pub signalsOf : ReliefRow → Past → ReliefSignals
-signalsOf x h = reliefSignals (blocksOf h) x (mean (x ∷ h))
-
+-- its signals at a row
 pub signals-are : (x : ReliefRow) (h : Past) → signalsAt (stateOf h) x ≡ signalsOf x h
 unfolding signalsAt mean
 signals-are x h = refl
@@ -113,7 +103,7 @@ module _ (blocks : ReliefBlocks) (x : ReliefRow) (h : Past) where
           (finite-here timeOfRow x h o) (here .down .«down_gate») down-gate (here .down .«down_passed») down-pulse
 
 -- ---- over the times of accepted rows
-before : (x : ReliefRow) (h : Past) → T (inOrder timeOfRow (x ∷ h)) → T (inOrder timeOfRow h)
+pub before : (x : ReliefRow) (h : Past) → T (inOrder timeOfRow (x ∷ h)) → T (inOrder timeOfRow h)
 before x h o = and-r (isTime (x .time) && notBefore timeOfRow (x .time) h) (inOrder timeOfRow h) o
 
 pub up-reads : (h : Past) → T (inOrder timeOfRow h) → UpReads (blocksOf h) h

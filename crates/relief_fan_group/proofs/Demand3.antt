@@ -19,8 +19,9 @@ use Rattle.refusals.specs.declared.Verdict.the-variants.{Accepted, Refused}
 use Rattle.refusals.specs.Refusals.{judge}
 use Rattle.past.specs.Stepped.{stepped, notBefore, inOrder}
 use Rattle.past.specs.Whole.{Told, toldBy, nextBy, run, readAll}
+use Rattle.past.specs.Whole as whole
 use Rattle.past.proofs.Stepped.{seenOf, time-here}
-use Rattle.past.proofs.Whole.{run-reads, read-at, readNewest}
+use Rattle.past.proofs.Whole.{good-accepted, run-reads, read-at, readNewest}
 use Rattle.past.proofs.Judged.{judged-in-order}
 use Rattle.moving_average.specs.Past.{belowLast, timeAccepted, accepted, windowIsFull, movingAverageOf}
 use Rattle.moving_average.specs.State.{movingAverageIsFull}
@@ -34,14 +35,15 @@ use Rattle.relief_fan_group.specs.Signals.{pressureControl, reliefSignal
 use Rattle.relief_fan_group.specs.Commands.{reliefCommands}
 use Rattle.relief_fan_group.specs.Step.{reliefFresh, reliefNext, reliefRow, signalsAt, stepBy}
 use Rattle.relief_fan_group.specs.Reading.{Past, timeOfRow, pressureOfRow, mean, ReliefReading, reliefReading, lastTime, verdictOf}
+use Rattle.relief_fan_group.specs.Stages.{blocksOf, signalsOf}
 use Rattle.relief_fan_group.specs.Told.{pulsesTold, reliefTold, reliefReturned}
-use Rattle.relief_fan_group.proofs.Blocks.{blocksOf, stateOf, signalsOf, signals-are, fresh-is, up-pulse, down-pulse, up-reads, down-reads, last-reads}
+use Rattle.relief_fan_group.proofs.Blocks.{stateOf, signals-are, fresh-is, up-pulse, down-pulse, up-reads, down-reads, last-reads}
 
 -- ---- what holds of the accepted rows: their times are in order, and the window had room for each
 abbrev pub good : Past → Bool
 good h = inOrder timeOfRow h && accepted (map timeOfRow h)
 
-good-order : (h : Past) → T (good h) → T (inOrder timeOfRow h)
+pub good-order : (h : Past) → T (good h) → T (inOrder timeOfRow h)
 good-order h g = and-l (inOrder timeOfRow h) (accepted (map timeOfRow h)) g
 
 good-window : (h : Past) → T (good h) → T (accepted (map timeOfRow h))
@@ -124,6 +126,10 @@ moves x h g = ap (λ (v : Verdict). stepBy v (stateOf h) x .state) (verdict-is x
 good-none : T (good [])
 unfolding accepted
 good-none = tt
+
+-- the accepted rows of every list are so
+pub accepted-good : (l : List ReliefRow) → T (good (whole.accepted verdictOf l))
+accepted-good l = good-accepted verdictOf good reliefReading reliefTold reliefReturned stateOf good-none good-more answers moves l
 
 -- the whole list at once: the answers of the run are what the list tells at each place, in order
 pub demand-3 : (rows : List ReliefRow) → run reliefTold reliefReturned reliefFresh rows ≡ readAll verdictOf reliefReading [] rows

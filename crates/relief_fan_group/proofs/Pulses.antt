@@ -1,10 +1,11 @@
 -- A threshold, a timer that tests the present row only, and the pre that feeds its pass back: together they are the pulse of document 01. Once for both ways.
 -- Assumes nothing.
 use mathlib.Core.Path.{_≡_, refl, sym, _∙_}
-use mathlib.Core.Bool.{Bool, true, false, not, _&&_}
+use mathlib.Core.Bool.{Bool, true, false, not, _&&_, cond}
 use mathlib.Core.List.{List, [], _∷_}
 use lib.Dec.{T}
-use lib.Ieee.{Float, le}
+use lib.ListN.{drop}
+use lib.Ieee.{Float, binary64, sub, le}
 use lib.Ieee.Scale.{finite}
 use Rattle.reals.specs.Constants.{plusZero}
 use Rattle.reals.specs.declared.threshold.ThresholdMode.{ThresholdMode}
@@ -14,8 +15,11 @@ use Rattle.logical.specs.declared.pre.PreState.{PreState}
 use Rattle.logical.specs.declared.present_timer.PresentTimerState.{PresentTimerState}
 use Rattle.logical.specs.Pre.{preNew, preOutput, preUpdate}
 use Rattle.logical.specs.PresentTimer.{presentTimerNew, presentTimerOutput, presentTimerUpdate}
+use Rattle.reals.proofs.Truth.{is-true, is-false, holds, fails}
+use Rattle.reals.proofs.Times.{self-gap}
 use Rattle.past.specs.Turns.{values, pulse}
 use Rattle.past.proofs.Laws.{since-none}
+use Rattle.past.proofs.RunLaws.{lastRise, running-step}
 use Rattle.past.proofs.TurnLaws.{gate, pulse-law}
 use Rattle.past.proofs.LevelReading.{near, far, band, crossed, thresholdOf, threshold-output, threshold-update}
 use Rattle.past.proofs.TimerReading.{presentTimerOf, present-timer-new, present-timer-output, present-timer-update}
@@ -62,3 +66,37 @@ module _ {A : Type 0} (time : A → Float) (v : List A → Float) (m : Threshold
             tim-is = rw (r .tim-is, e) (present-timer-update time n gateOf gate-none positive x h);
             pre-is = unfold preUpdate in rw q refl;
           }
+
+  -- a pulse comes only where the row before had a request and no pulse before it, and has no pulse itself
+  module _ (x : A) (h : List A) (f : T (finite (time x))) (on : pulse time n request (x ∷ h) ≡ true) where
+    gated : (gateOf (x ∷ h) && le n (sub binary64 (time x) (lastRise time gateOf gate-none (x ∷ h)))) ≡ true
+    gated = sym (running-step time gateOf gate-none n x h) ∙ sym (pulse-law time n request (x ∷ h)) ∙ on
+
+    pub pulse-alone : pulse time n request h ≡ false
+    unfolding gate
+    pulse-alone = go (request (x ∷ h)) (pulse time n request h) (le n (sub binary64 (time x) (lastRise time gateOf gate-none (x ∷ h)))) gated
+      where
+        go : (a b c : Bool) → ((a && not b) && c) ≡ true → b ≡ false
+        go a false c e = refl
+        go true true c e = sym e
+        go false true c e = sym e
+
+    pub gated-before : gateOf h ≡ true
+    gated-before = go (gateOf (x ∷ h)) (gateOf h) gated
+      where
+        go : (a b : Bool) → (a && le n (sub binary64 (time x) (cond (a && not b) (time x) (lastRise time gateOf gate-none h)))) ≡ true → b ≡ true
+        go a true e = refl
+        go true false e = sym (rw (self-gap (time x) f) positive) ∙ e
+        go false false e = e
+
+    pub request-before : request h ≡ true
+    unfolding gate
+    request-before = go (request h) (not (pulse time n request (drop 1 h))) gated-before
+      where
+        go : (a b : Bool) → (a && b) ≡ true → a ≡ true
+        go true b e = refl
+        go false b e = e
+
+  -- so none comes on row 0
+  pub none-on-row-0 : (x : A) → T (finite (time x)) → pulse time n request (x ∷ []) ≡ false
+  none-on-row-0 x f = is-false (pulse time n request (x ∷ [])) (λ t. fails (gateOf []) gate-none (holds (gateOf []) (gated-before x [] f (is-true (pulse time n request (x ∷ [])) t))))
