@@ -2,20 +2,20 @@
 use Prim.Native.Nat.{ℕ, zero, suc, _<_}
 use native.Mathlib.Omega.{arith}
 use mathlib.Core.Path.{_≡_, refl, ap, _∙_}
-use mathlib.Core.Bool.{Bool, false}
+use mathlib.Core.Bool.{false}
 use mathlib.Core.List.{List}
 use lib.IntN.{ℤ, pos}
 use lib.Ieee.{Float}
 use Rattle.reals.specs.Constants.{plusZero}
 use Rattle.reals.specs.Four.{real, flag, each4}
 use Rattle.reals.specs.Switch.{boolToReal}
-use Rattle.relief_fans.specs.Commands.{level, isLevel2, alarmOffGuard, damperAt, damper}
+use Rattle.relief_fans.specs.Commands.{level, isLevel2, damperAt, damper}
 use Rattle.relief_fans.proofs.Guard.{other-alarm, level-3-is-another, unproven-at-2-is-shut, guarded-as-commanded}
 use Rattle.relief_fan_group.specs.declared.types.ReliefRow.{ReliefRow}
 use Rattle.relief_fan_group.specs.declared.types.ReliefBlocks.{ReliefBlocks}
 use Rattle.relief_fan_group.specs.declared.types.ReliefSignals.{ReliefSignals}
 use Rattle.relief_fan_group.specs.Signals.{pressureControl, damperEnable, stageUp, stageDown, reliefSignals}
-use Rattle.relief_fan_group.specs.Commands.{fansOn, reliefCommands}
+use Rattle.relief_fan_group.specs.Commands.{reliefCommands}
 use Rattle.relief_fan_group.specs.Step.{reliefNext}
 use Rattle.relief_fan_group.specs.Alarms.{speedsOf, dampersOf, openedOf, withAlarm}
 

@@ -1,52 +1,49 @@
 -- Can the relief fans miss a stage? For every list of rows, refused ones included: a stage latch is on exactly where a pulse has risen and nothing has settled from
 -- there to here, ends counted. So a pulse sets its latch exactly where its row is not settled, and is lost exactly where it is. Assumes nothing.
 use Prim.Native.Nat.{ℕ}
-use mathlib.Core.Path.{_≡_, refl, sym, ap, _∙_}
+use mathlib.Core.Path.{_≡_, refl, sym, _∙_}
 use mathlib.Core.Bool.{Bool, true, false, not, _&&_, _||_, Bool·beq, cond}
 use mathlib.Core.List.{List, [], _∷_}
 use lib.Dec.{T}
 use lib.Ieee.{Float, binary64, add, sub, div, lt, le, ofBits}
 use lib.Ieee.Scale.{finite}
-use lib.Ieee.Fits.{and-l}
 use Rattle.reals.specs.Constants.{plusZero}
 use Rattle.reals.specs.Four.{flag, each4}
 use Rattle.reals.specs.Limits.{limit}
 use Rattle.reals.specs.Switch.{switch}
-use Rattle.reals.specs.declared.threshold.ThresholdMode.the-variants.{Greater, Less}
 use Rattle.reals.proofs.Truth.{is-true, is-false, holds, fails, table1, table4}
 use Rattle.logical.specs.declared.latch.LatchState.{LatchState}
 use Rattle.logical.specs.declared.true_delay_on_init.TrueDelayOnInitState.{TrueDelayOnInitState}
 use Rattle.logical.specs.Switch.{logicalSwitch}
-use Rattle.logical.specs.Latch.{latchOutput, latchUpdate}
+use Rattle.logical.specs.Latch.{latchNew, latchOutput, latchUpdate}
 use Rattle.logical.specs.TrueDelayOnInit.{trueDelayOnInitNew, trueDelayOnInitOutput, trueDelayOnInitUpdate}
 use Rattle.past.specs.Past.{every, latched}
 use Rattle.past.specs.Runs.{running}
-use Rattle.past.specs.Stepped.{stepped, inOrder}
+use Rattle.past.specs.Stepped.{inOrder}
 use Rattle.past.specs.Turns.{values, pulse}
 use Rattle.past.specs.Whole.{accepted}
 use Rattle.past.proofs.Laws.{since-step, since-none, latched-step, latched-none}
-use Rattle.past.proofs.RunLaws.{lastRise, running-step}
 use Rattle.past.proofs.Stepped.{finite-here}
-use Rattle.past.proofs.TurnLaws.{gate, pulse-law}
 use Rattle.past.proofs.LatchReading.{latchOf, latch-new, latch-output, latch-update}
 use Rattle.past.proofs.TimerReading.{trueDelayOnInitOf, true-delay-on-init-new, true-delay-on-init-output, true-delay-on-init-update}
 use Rattle.moving_average.specs.Past.{movingAverageOf}
 use Rattle.moving_average.proofs.FirstRows.{first-mean}
 use Rattle.relief_fans.specs.Flags.{equalEach, xorEach, switchEach, allOf}
-use Rattle.relief_fans.specs.Blocks.{delayAt, delayOutputs, delayUpdates}
+use Rattle.relief_fans.specs.Blocks.{delayOutputs, delayUpdates}
 use Rattle.relief_fan_group.specs.declared.types.ReliefRow.{ReliefRow}
 use Rattle.relief_fan_group.specs.declared.types.ReliefBlocks.{ReliefBlocks}
+use Rattle.relief_fan_group.specs.declared.types.ReliefSignals.{ReliefSignals}
 use Rattle.relief_fan_group.specs.declared.types.StageUp.{StageUp}
 use Rattle.relief_fan_group.specs.declared.types.StageDown.{StageDown}
-use Rattle.relief_fan_group.specs.Constants.{minSpeed, stageUpLevel, hys, proofTime, stageUpTime, stageDownTime}
+use Rattle.relief_fan_group.specs.Constants.{stageUpLevel, hys, proofTime}
 use Rattle.relief_fan_group.specs.Signals.{pressureLoop, stageUp, stageDown, reliefSignals}
 use Rattle.relief_fan_group.specs.Commands.{fansOn}
 use Rattle.relief_fan_group.specs.Step.{reliefBlocks, reliefNext}
 use Rattle.relief_fan_group.specs.Reading.{Past, timeOfRow, mean, loopOf, upRequest, upPulse, downPulse, verdictOf}
-use Rattle.relief_fan_group.specs.Stages.{nextOf, blocksOf, signalsOf, proven, onAfterUp, offAfterDown, startsSettled, stopsSettled, upLatch, downLatch}
+use Rattle.relief_fan_group.specs.Stages.{blocksOf, signalsOf, onAfterUp, offAfterDown, startsSettled, stopsSettled, upLatch, downLatch}
 use Rattle.relief_fan_group.proofs.Pulses.{pulse-alone, request-before, none-on-row-0}
-use Rattle.relief_fan_group.proofs.Blocks.{up-band, up-positive, down-band, down-positive, up-pulse, down-pulse, up-reads, down-reads, before}
-use Rattle.relief_fan_group.proofs.Demand3.{good, good-order, accepted-good}
+use Rattle.relief_fan_group.proofs.Blocks.{upWay, downWay, up-pulse, down-pulse, before}
+use Rattle.relief_fan_group.proofs.Demand3.{good-order, accepted-good}
 
 -- ---- four fans
 -- the four together
@@ -118,85 +115,108 @@ stops-settled : (x : ReliefRow) (h : Past) → T (inOrder timeOfRow (x ∷ h)) �
 unfolding stopsSettled reliefSignals stageDown
 stops-settled x h t = all-differ offAfterDown (λ i. refl) x h (blocksOf h .«tru_del1») (down-delays h) (signalsOf x h .down .not5) (λ i. refl) t (x .proof)
 
--- ---- a latch with what sets and clears it
-module _ (set clear : Past → Bool) (none : set [] ≡ false) (x : ReliefRow) (h : Past) (s : LatchState) (e : s ≡ latchOf set clear h) (p c : Bool) (q : p ≡ set (x ∷ h)) (r : c ≡ clear (x ∷ h)) where
-  latch-reads : latchOutput s p c ≡ latched set clear (x ∷ h)
-  latch-reads = rw (e, q, r) (latch-output set clear none x h)
+-- ---- a stage latch, with the pulse that sets it and what clears it
+record Stage : Type 0 where
+  set : Past → Bool
+  clear : Past → Bool
+  latch : ReliefBlocks → LatchState
+  passed : ReliefSignals → Bool
+  settled : ReliefSignals → Bool
+  y : ReliefSignals → Bool
+  none : set [] ≡ false
+  alone : (x : ReliefRow) (h : Past) → T (finite (x .time)) → set (x ∷ h) ≡ true → set h ≡ false
+  starts : latch reliefBlocks ≡ latchNew
+  next : (b : ReliefBlocks) (x : ReliefRow) (g : ReliefSignals) → latch (reliefNext b x g) ≡ latchUpdate (latch b) (passed g) (settled g)
+  y-is : (b : ReliefBlocks) (x : ReliefRow) (a : Float) → y (reliefSignals b x a) ≡ latchOutput (latch b) (passed (reliefSignals b x a)) (settled (reliefSignals b x a))
+  passed-is : (x : ReliefRow) (h : Past) → T (inOrder timeOfRow (x ∷ h)) → passed (signalsOf x h) ≡ set (x ∷ h)
+  settled-is : (x : ReliefRow) (h : Past) → T (inOrder timeOfRow (x ∷ h)) → settled (signalsOf x h) ≡ clear (x ∷ h)
 
-  latch-next : latchUpdate s p c ≡ latchOf set clear (x ∷ h)
-  latch-next = rw (e, q, r) (latch-update set clear none x h)
-
-up-none : upPulse [] ≡ false
-unfolding pulse values
-up-none = refl
-
-down-none : downPulse [] ≡ false
-unfolding pulse values
-down-none = refl
-
-up-held : (h : Past) → T (inOrder timeOfRow h) → blocksOf h .lat2 ≡ latchOf upPulse startsSettled h
-unfolding blocksOf reliefBlocks reliefNext
-up-held [] t = latch-new upPulse startsSettled up-none
-up-held (x ∷ h) t =
-    let b = before x h t in
-    latch-next upPulse startsSettled up-none x h (blocksOf h .lat2) (up-held h b) (signalsOf x h .up .«up_passed») (signalsOf x h .up .«all_newly_started_proven»)
-    (up-pulse (blocksOf h) x h (up-reads h b) t) (starts-settled x h t)
-
-down-held : (h : Past) → T (inOrder timeOfRow h) → blocksOf h .lat1 ≡ latchOf downPulse stopsSettled h
-unfolding blocksOf reliefBlocks reliefNext
-down-held [] t = latch-new downPulse stopsSettled down-none
-down-held (x ∷ h) t =
-    let b = before x h t in
-    latch-next downPulse stopsSettled down-none x h (blocksOf h .lat1) (down-held h b) (signalsOf x h .down .«down_passed») (signalsOf x h .down .«all_stopped_matches»)
-    (down-pulse (blocksOf h) x h (down-reads h b) t) (stops-settled x h t)
-
--- ---- the stage latches, over all lists
-up-latch-at : (h : Past) → T (inOrder timeOfRow h) → upLatch h ≡ latched upPulse startsSettled h
-up-latch-at [] t = sym (latched-none {A = ReliefRow} upPulse startsSettled)
-up-latch-at (x ∷ h) t =
-    let b = before x h t in
-    unfold reliefSignals stageUp in
-    latch-reads upPulse startsSettled up-none x h (blocksOf h .lat2) (up-held h b) (signalsOf x h .up .«up_passed») (signalsOf x h .up .«all_newly_started_proven»)
-    (up-pulse (blocksOf h) x h (up-reads h b) t) (starts-settled x h t)
-
-down-latch-at : (h : Past) → T (inOrder timeOfRow h) → downLatch h ≡ latched downPulse stopsSettled h
-down-latch-at [] t = sym (latched-none {A = ReliefRow} downPulse stopsSettled)
-down-latch-at (x ∷ h) t =
-    let b = before x h t in
-    unfold reliefSignals stageDown in
-    latch-reads downPulse stopsSettled down-none x h (blocksOf h .lat1) (down-held h b) (signalsOf x h .down .«down_passed») (signalsOf x h .down .«all_stopped_matches»)
-    (down-pulse (blocksOf h) x h (down-reads h b) t) (stops-settled x h t)
-
--- for the accepted rows of every list: the stage-up latch is on where an up pulse has come and the starts have not settled from there to here, ends counted
-pub up-latch : (l : List ReliefRow) → upLatch (accepted verdictOf l) ≡ latched upPulse startsSettled (accepted verdictOf l)
-up-latch l = up-latch-at (accepted verdictOf l) (good-order (accepted verdictOf l) (accepted-good l))
-
-pub down-latch : (l : List ReliefRow) → downLatch (accepted verdictOf l) ≡ latched downPulse stopsSettled (accepted verdictOf l)
-down-latch l = down-latch-at (accepted verdictOf l) (good-order (accepted verdictOf l) (accepted-good l))
-
--- ---- a pulse sets its latch, or is lost
--- where the set signal rises, the latch is on exactly if its clear is not
+-- where the set signal rises, a latch is on exactly if its clear is not
 rise-sets : (set clear : Past → Bool) → set [] ≡ false → (x : ReliefRow) (h : Past) → set (x ∷ h) ≡ true → set h ≡ false → latched set clear (x ∷ h) ≡ not (clear (x ∷ h))
 rise-sets set clear none x h e d = rw (latched-step set clear none x h, e, d) (table1 (λ a. a && true) (λ a. a) tt (not (clear (x ∷ h))))
 
-up-sets-at : (h : Past) → T (inOrder timeOfRow h) → upPulse h ≡ true → upLatch h ≡ not (startsSettled h)
-up-sets-at [] t p = absurd (fails (upPulse []) up-none (holds (upPulse []) p))
-up-sets-at (x ∷ h) t p =
-    up-latch-at (x ∷ h) t
-    ∙ rise-sets upPulse startsSettled up-none x h p (pulse-alone timeOfRow loopOf Greater stageUpLevel hys stageUpTime up-band up-positive x h (finite-here timeOfRow x h t) p)
+module _ (s : Stage) where
+  held : (h : Past) → T (inOrder timeOfRow h) → s .latch (blocksOf h) ≡ latchOf (s .set) (s .clear) h
+  unfolding blocksOf
+  held [] t = s .starts ∙ latch-new (s .set) (s .clear) (s .none)
+  held (x ∷ h) t =
+      s .next (blocksOf h) x (signalsOf x h)
+      ∙ rw (held h (before x h t), s .passed-is x h t, s .settled-is x h t) (latch-update (s .set) (s .clear) (s .none) x h)
 
-down-sets-at : (h : Past) → T (inOrder timeOfRow h) → downPulse h ≡ true → downLatch h ≡ not (stopsSettled h)
-down-sets-at [] t p = absurd (fails (downPulse []) down-none (holds (downPulse []) p))
-down-sets-at (x ∷ h) t p =
-    down-latch-at (x ∷ h) t
-    ∙ rise-sets downPulse stopsSettled down-none x h p (pulse-alone timeOfRow loopOf Less minSpeed hys stageDownTime down-band down-positive x h (finite-here timeOfRow x h t) p)
+  module _ (x : ReliefRow) (h : Past) (t : T (inOrder timeOfRow (x ∷ h))) where
+    latch-at : s .y (signalsOf x h) ≡ latched (s .set) (s .clear) (x ∷ h)
+    latch-at =
+        s .y-is (blocksOf h) x (mean (x ∷ h))
+        ∙ rw (held h (before x h t), s .passed-is x h t, s .settled-is x h t) (latch-output (s .set) (s .clear) (s .none) x h)
+
+    sets-at : s .set (x ∷ h) ≡ true → s .y (signalsOf x h) ≡ not (s .clear (x ∷ h))
+    sets-at p = latch-at ∙ rise-sets (s .set) (s .clear) (s .none) x h p (s .alone x h (finite-here timeOfRow x h t) p)
+
+unfoldable upStage : Stage
+unfolding reliefBlocks reliefNext reliefSignals stageUp pulse values
+upStage =
+    record {
+      set = upPulse;
+      clear = startsSettled;
+      latch = λ b. b .lat2;
+      passed = λ g. g .up .«up_passed»;
+      settled = λ g. g .up .«all_newly_started_proven»;
+      y = λ g. g .up .«lat2_y»;
+      none = refl;
+      alone = pulse-alone timeOfRow loopOf upWay;
+      starts = refl;
+      next = λ b x g. refl;
+      y-is = λ b x a. refl;
+      passed-is = up-pulse;
+      settled-is = starts-settled;
+    }
+
+unfoldable downStage : Stage
+unfolding reliefBlocks reliefNext reliefSignals stageDown pulse values
+downStage =
+    record {
+      set = downPulse;
+      clear = stopsSettled;
+      latch = λ b. b .lat1;
+      passed = λ g. g .down .«down_passed»;
+      settled = λ g. g .down .«all_stopped_matches»;
+      y = λ g. g .down .«lat1_y»;
+      none = refl;
+      alone = pulse-alone timeOfRow loopOf downWay;
+      starts = refl;
+      next = λ b x g. refl;
+      y-is = λ b x a. refl;
+      passed-is = down-pulse;
+      settled-is = stops-settled;
+    }
+
+-- ---- the stage latches, over all lists
+-- a fact of the accepted rows of every list, from the same of rows in order
+over-lists : (P : Past → Type 0) → P [] → ((x : ReliefRow) (h : Past) → T (inOrder timeOfRow (x ∷ h)) → P (x ∷ h)) → (l : List ReliefRow) → P (accepted verdictOf l)
+over-lists P n f l = go (accepted verdictOf l) (good-order (accepted verdictOf l) (accepted-good l))
+  where
+    go : (h : Past) → T (inOrder timeOfRow h) → P h
+    go [] t = n
+    go (x ∷ h) t = f x h t
+
+-- for the accepted rows of every list: the stage-up latch is on where an up pulse has come and the starts have not settled from there to here, ends counted
+pub up-latch : (l : List ReliefRow) → upLatch (accepted verdictOf l) ≡ latched upPulse startsSettled (accepted verdictOf l)
+unfolding upStage
+up-latch l = over-lists (λ h. upLatch h ≡ latched upPulse startsSettled h) (sym (latched-none {A = ReliefRow} upPulse startsSettled)) (latch-at upStage) l
+
+pub down-latch : (l : List ReliefRow) → downLatch (accepted verdictOf l) ≡ latched downPulse stopsSettled (accepted verdictOf l)
+unfolding downStage
+down-latch l = over-lists (λ h. downLatch h ≡ latched downPulse stopsSettled h) (sym (latched-none {A = ReliefRow} downPulse stopsSettled)) (latch-at downStage) l
 
 -- for every list: a row with an up pulse turns the stage-up latch on exactly if the starts are not settled there; where they are, the pulse is lost
 pub up-pulse-sets : (l : List ReliefRow) → upPulse (accepted verdictOf l) ≡ true → upLatch (accepted verdictOf l) ≡ not (startsSettled (accepted verdictOf l))
-up-pulse-sets l p = up-sets-at (accepted verdictOf l) (good-order (accepted verdictOf l) (accepted-good l)) p
+unfolding upStage
+up-pulse-sets l = over-lists (λ h. upPulse h ≡ true → upLatch h ≡ not (startsSettled h)) (λ p. absurd (fails (upPulse []) (upStage .none) (holds (upPulse []) p))) (sets-at upStage) l
 
 pub down-pulse-sets : (l : List ReliefRow) → downPulse (accepted verdictOf l) ≡ true → downLatch (accepted verdictOf l) ≡ not (stopsSettled (accepted verdictOf l))
-down-pulse-sets l p = down-sets-at (accepted verdictOf l) (good-order (accepted verdictOf l) (accepted-good l)) p
+unfolding downStage
+down-pulse-sets l =
+    over-lists (λ h. downPulse h ≡ true → downLatch h ≡ not (stopsSettled h)) (λ p. absurd (fails (downPulse []) (downStage .none) (holds (downPulse []) p))) (sets-at downStage) l
 
 -- while both latches are off, the fans commanded on are those that are proven on: none is added, none taken off
 pub nothing-staged : (proof : List Bool) (up : StageUp) (down : StageDown) → up .«lat2_y» ≡ false → down .«lat1_y» ≡ false → fansOn proof up down ≡ each4 (flag proof)
@@ -224,12 +244,12 @@ first-request x a b =
     (table1 (λ c. false || c && false) (λ c. false) tt (lt (sub binary64 stageUpLevel hys) (loopOf (x ∷ []))))
 
 pub no-up-pulse-on-row-0 : (x : ReliefRow) → T (finite (x .time)) → upPulse (x ∷ []) ≡ false
-no-up-pulse-on-row-0 x a = none-on-row-0 timeOfRow loopOf Greater stageUpLevel hys stageUpTime up-band up-positive x a
+no-up-pulse-on-row-0 x a = none-on-row-0 timeOfRow loopOf upWay x a
 
 pub no-up-pulse-on-row-1 : (x y : ReliefRow) → T (finite (x .time)) → T (finite (y .time)) → T (finite (y .pressure)) → upPulse (x ∷ (y ∷ [])) ≡ false
 no-up-pulse-on-row-1 x y a b c = is-false (upPulse (x ∷ (y ∷ []))) (λ t. fails (upRequest (y ∷ [])) (first-request y b c)
-    (holds (upRequest (y ∷ [])) (request-before timeOfRow loopOf Greater stageUpLevel hys stageUpTime up-band up-positive x (y ∷ []) a (is-true (upPulse (x ∷ (y ∷ []))) t))))
+    (holds (upRequest (y ∷ [])) (request-before timeOfRow loopOf upWay x (y ∷ []) a (is-true (upPulse (x ∷ (y ∷ []))) t))))
 
 -- nor has a list of one accepted row a down pulse
 pub no-down-pulse-on-row-0 : (x : ReliefRow) → T (finite (x .time)) → downPulse (x ∷ []) ≡ false
-no-down-pulse-on-row-0 x a = none-on-row-0 timeOfRow loopOf Less minSpeed hys stageDownTime down-band down-positive x a
+no-down-pulse-on-row-0 x a = none-on-row-0 timeOfRow loopOf downWay x a

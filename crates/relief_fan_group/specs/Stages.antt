@@ -2,7 +2,7 @@
 -- choose the next fan is stepped over the past. proofs/Stages.antt has the answer.
 use Prim.Native.Nat.{ℕ}
 use mathlib.Core.Bool.{Bool, false, not, Bool·beq}
-use mathlib.Core.List.{List, [], _∷_}
+use mathlib.Core.List.{[], _∷_}
 use Rattle.reals.specs.Four.{flag}
 use Rattle.past.specs.Past.{every}
 use Rattle.past.specs.Runs.{running}
