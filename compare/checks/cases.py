@@ -1,4 +1,5 @@
-"""The cases of document 01 that a row file can show, as tables.
+"""The cases of document 01 that a row file can show, as tables, and the shortest lists that miss a
+relief stage.
 
 Fields stand before the bar, what the answer must hold after it; fields that a table does not name
 have the values of DEFAULTS. A dash is not looked at. R4 and the panic of E4 are tests in
@@ -142,6 +143,29 @@ CASES = [
     ('R3 nor does alarm 2 at a proven fan', 'relief', '''
         time pressure alarm_3 proof_3 | speed_3 damper_3
         0    24       2       1       | 0.1     1
+    '''),
+    ('a stage up is missed where the next fan changes on the row of the pulse', 'relief', '''
+        time supply_1 | mean           speed_1 speed_2 speed_3 speed_4
+        0    0        | 0              0       0       0       0
+        15   0        | 270/(15+0.001) 0       0       0       0
+        435  1        | 18             0       0       0       0
+    '''),
+    ('it is not missed where that fan has been the next for 2 s', 'relief', '''
+        time supply_1 | speed_3
+        0    0        | 0
+        15   0        | 0
+        433  1        | 0
+        435  1        | 0.5
+    '''),
+    ('a stage down is missed where the next fan changes on the row of the pulse', 'relief', '''
+        time pressure proof_1 proof_3 | speed_1 speed_3
+        0    12       1       1       | 0.1     0.1
+        300  12       1       0       | 0.1     0
+    '''),
+    ('it is not missed where that fan was the next before', 'relief', '''
+        time pressure proof_1 | speed_1
+        0    12       1       | 0.1
+        300  12       1       | 0
     '''),
     ('E1 a difference of 0 does not rise', 'econ', '''
         time outdoor | out

@@ -1,15 +1,21 @@
 -- The relief fan group's state as a function of the past: the moving average and the blocks are stepped over the rows, and the blocks of the two pulses are the
 -- readings of document 01. Assumes nothing.
-use mathlib.Core.Path.{_≡_, refl}
-use mathlib.Core.Bool.{Bool, true, false, not, _&&_}
-use mathlib.Core.List.{List, [], _∷_}
+use mathlib.Core.Path.{_≡_, refl, _∙_}
+use mathlib.Core.Bool.{Bool, false, not, _&&_}
+use mathlib.Core.List.{[], _∷_}
 use lib.Dec.{T}
 use lib.Ieee.{Float, add, sub, le, ofBits}
 use lib.Ieee.Fits.{and-r}
 use Rattle.reals.specs.Constants.{plusZero}
 use Rattle.reals.specs.Sign.{isTime}
 use Rattle.reals.specs.declared.threshold.ThresholdMode.the-variants.{Greater, Less}
-use Rattle.past.specs.Stepped.{stepped, notBefore, inOrder}
+use Rattle.reals.specs.declared.threshold.ThresholdState.{ThresholdState}
+use Rattle.reals.specs.Threshold.{thresholdOutput, thresholdUpdate}
+use Rattle.logical.specs.declared.pre.PreState.{PreState}
+use Rattle.logical.specs.declared.present_timer.PresentTimerState.{PresentTimerState}
+use Rattle.logical.specs.Pre.{preOutput, preUpdate}
+use Rattle.logical.specs.PresentTimer.{presentTimerOutput, presentTimerUpdate}
+use Rattle.past.specs.Stepped.{notBefore, inOrder}
 use Rattle.past.specs.Turns.{pulse}
 use Rattle.past.proofs.Stepped.{finite-here}
 use Rattle.past.proofs.LevelReading.{band, threshold-new}
@@ -19,12 +25,34 @@ use Rattle.relief_fan_group.specs.declared.types.ReliefBlocks.{ReliefBlo
 use Rattle.relief_fan_group.specs.declared.types.ReliefState.{ReliefState}
 use Rattle.relief_fan_group.specs.declared.types.ReliefSignals.{ReliefSignals}
 use Rattle.relief_fan_group.specs.Constants.{minSpeed, stageUpLevel, hys, stageUpTime, stageDownTime}
-use Rattle.relief_fan_group.specs.Signals.{pressureControl, stageUp, stageDown, reliefSignals}
+use Rattle.relief_fan_group.specs.Signals.{pressureLoop, pressureControl, stageUp, stageDown, reliefSignals}
 use Rattle.relief_fan_group.specs.Step.{reliefBlocks, reliefFresh, reliefNext, signalsAt}
 use Rattle.relief_fan_group.specs.Reading.{Past, timeOfRow, pressureOfRow, mean, loopOf, upPulse, downPulse, lastTime}
-use Rattle.relief_fan_group.proofs.Pulses.{Reads, begins, gateOf, gate-reads, pulse-reads, one-further}
+use Rattle.relief_fan_group.specs.Stages.{blocksOf, signalsOf}
+use Rattle.relief_fan_group.proofs.Pulses.{Way, request, gateOf, Reads, begins, gate-reads, pulse-reads, one-further}
 
--- ---- the constants: delays above 0, bands on the right side
+-- ---- the state of a past
+abbrev pub stateOf : Past → ReliefState
+stateOf h = record { window = movingAverageOf timeOfRow pressureOfRow h; blocks = blocksOf h }
+
+-- its signals at a row
+pub signals-are : (x : ReliefRow) (h : Past) → signalsAt (stateOf h) x ≡ signalsOf x h
+unfolding signalsAt mean
+signals-are x h = refl
+
+pub fresh-is : reliefFresh ≡ stateOf []
+unfolding reliefFresh blocksOf movingAverageOf
+fresh-is = refl
+
+pub last-reads : (h : Past) → blocksOf h .last ≡ lastTime h
+unfolding blocksOf
+last-reads [] = unfold reliefBlocks in refl
+last-reads (x ∷ h) = unfold reliefNext in refl
+
+pub before : (x : ReliefRow) (h : Past) → T (inOrder timeOfRow (x ∷ h)) → T (inOrder timeOfRow h)
+before x h o = and-r (isTime (x .time) && notBefore timeOfRow (x .time) h) (inOrder timeOfRow h) o
+
+-- ---- the two ways of staging: delays above 0, bands on the right side
 pub up-positive : le stageUpTime plusZero ≡ false
 unfolding le ofBits
 up-positive = refl
@@ -41,92 +69,96 @@ pub down-band : T (band Less minSpeed hys)
 unfolding le add ofBits
 down-band = tt
 
--- ---- the state of a past
--- the blocks one row further, at the newest row of a past
-abbrev pub nextOf : ReliefBlocks → Past → ReliefBlocks
-nextOf blocks [] = blocks
-nextOf blocks (x ∷ h) = reliefNext blocks x (reliefSignals blocks x (mean (x ∷ h)))
+abbrev pub upWay : Way
+upWay = record { mode = Greater; level = stageUpLevel; hysteresis = hys; seconds = stageUpTime; banded = up-band; positive = up-positive }
 
-unfoldable pub blocksOf : Past → ReliefBlocks
-blocksOf h = stepped reliefBlocks nextOf h
+abbrev pub downWay : Way
+downWay = record { mode = Less; level = minSpeed; hysteresis = hys; seconds = stageDownTime; banded = down-band; positive = down-positive }
 
-abbrev pub stateOf : Past → ReliefState
-stateOf h = record { window = movingAverageOf timeOfRow pressureOfRow h; blocks = blocksOf h }
+-- the pulse of a way, by its blocks and signals: a threshold, a timer and a pre, each with the input that the sequence gives it
+pub record Side (w : Way) : Type 0 where
+  pub thr : ReliefBlocks → ThresholdState
+  pub tim : ReliefBlocks → PresentTimerState
+  pub pre : ReliefBlocks → PreState
+  pub gate : ReliefSignals → Bool
+  pub passed : ReliefSignals → Bool
+  pub starts : Reads timeOfRow loopOf w (thr reliefBlocks) (tim reliefBlocks) (pre reliefBlocks) []
+  pub gate-is : (b : ReliefBlocks) (x : ReliefRow) (a : Float) → gate (reliefSignals b x a) ≡ (thresholdOutput (thr b) (pressureLoop a) && preOutput (pre b))
+  pub passed-is : (b : ReliefBlocks) (x : ReliefRow) (a : Float) → passed (reliefSignals b x a) ≡ presentTimerOutput (tim b) (x .time) (gate (reliefSignals b x a)) .passed
+  pub thr-next : (b : ReliefBlocks) (x : ReliefRow) (a : Float) → thr (reliefNext b x (reliefSignals b x a)) ≡ thresholdUpdate (thr b) (pressureLoop a)
+  pub tim-next : (b : ReliefBlocks) (x : ReliefRow) (g : ReliefSignals) → tim (reliefNext b x g) ≡ presentTimerUpdate (tim b) (x .time) (gate g)
+  pub pre-next : (b : ReliefBlocks) (x : ReliefRow) (g : ReliefSignals) → pre (reliefNext b x g) ≡ preUpdate (pre b) (not (passed g))
 
--- the signals of a row after a past
-abbrev pub signalsOf : ReliefRow → Past → ReliefSignals
-signalsOf x h = reliefSignals (blocksOf h) x (mean (x ∷ h))
+module _ (w : Way) (s : Side w) where
+  abbrev pub on : Past → Bool
+  on h = pulse timeOfRow (w .seconds) (request timeOfRow loopOf w) h
 
-pub signals-are : (x : ReliefRow) (h : Past) → signalsAt (stateOf h) x ≡ signalsOf x h
-unfolding signalsAt mean
-signals-are x h = refl
+  abbrev At : ReliefBlocks → Past → Type 0
+  At b h = Reads timeOfRow loopOf w (s .thr b) (s .tim b) (s .pre b) h
 
-pub fresh-is : reliefFresh ≡ stateOf []
-unfolding reliefFresh blocksOf movingAverageOf
-fresh-is = refl
+  module _ (b : ReliefBlocks) (x : ReliefRow) (h : Past) (r : At b h) (o : T (inOrder timeOfRow (x ∷ h))) where
+    abbrev here : ReliefSignals
+    here = reliefSignals b x (mean (x ∷ h))
 
--- ---- the blocks of the two pulses
-abbrev pub UpReads : ReliefBlocks → Past → Type 0
-UpReads blocks h = Reads timeOfRow loopOf Greater stageUpLevel hys stageUpTime up-band up-positive (blocks .«gre_thr2») (blocks .«up_tim») (blocks .pre) h
+    gate-here : s .gate here ≡ gateOf timeOfRow loopOf w (x ∷ h)
+    gate-here = s .gate-is b x (mean (x ∷ h)) ∙ gate-reads timeOfRow loopOf w (s .thr b) (s .tim b) (s .pre b) x h r
 
-abbrev pub DownReads : ReliefBlocks → Past → Type 0
-DownReads blocks h = Reads timeOfRow loopOf Less minSpeed hys stageDownTime down-band down-positive (blocks .«les_thr3») (blocks .«dow_tim») (blocks .pre1) h
+    pub passed-here : s .passed here ≡ on (x ∷ h)
+    passed-here = s .passed-is b x (mean (x ∷ h)) ∙ pulse-reads timeOfRow loopOf w (s .thr b) (s .tim b) (s .pre b) x h r (finite-here timeOfRow x h o) (s .gate here) gate-here
 
-module _ (blocks : ReliefBlocks) (x : ReliefRow) (h : Past) where
-  abbrev here : ReliefSignals
-  here = reliefSignals blocks x (mean (x ∷ h))
+    next-here : At (reliefNext b x here) (x ∷ h)
+    next-here =
+        rw (s .thr-next b x (mean (x ∷ h)), s .tim-next b x here, s .pre-next b x here)
+        (one-further timeOfRow loopOf w (s .thr b) (s .tim b) (s .pre b) x h r (finite-here timeOfRow x h o) (s .gate here) gate-here (s .passed here) passed-here)
 
-  module _ (r : UpReads blocks h) where
-    up-gate : here .up .«up_gate» ≡ gateOf timeOfRow loopOf Greater stageUpLevel hys stageUpTime up-band up-positive (x ∷ h)
-    unfolding reliefSignals stageUp pressureControl
-    up-gate = gate-reads timeOfRow loopOf Greater stageUpLevel hys stageUpTime up-band up-positive (blocks .«gre_thr2») (blocks .«up_tim») (blocks .pre) x h r
+  -- after every past of accepted rows
+  reads : (h : Past) → T (inOrder timeOfRow h) → At (blocksOf h) h
+  unfolding blocksOf
+  reads [] o = s .starts
+  reads (x ∷ h) o = next-here (blocksOf h) x h (reads h (before x h o)) o
 
-    module _ (o : T (inOrder timeOfRow (x ∷ h))) where
-      pub up-pulse : here .up .«up_passed» ≡ upPulse (x ∷ h)
-      unfolding reliefSignals stageUp
-      up-pulse =
-          pulse-reads timeOfRow loopOf Greater stageUpLevel hys stageUpTime up-band up-positive (blocks .«gre_thr2») (blocks .«up_tim») (blocks .pre) x h r
-          (finite-here timeOfRow x h o) (here .up .«up_gate») up-gate
+  pub pulse-is : (x : ReliefRow) (h : Past) → T (inOrder timeOfRow (x ∷ h)) → s .passed (signalsOf x h) ≡ on (x ∷ h)
+  pulse-is x h o = passed-here (blocksOf h) x h (reads h (before x h o)) o
 
-      up-next : UpReads (reliefNext blocks x here) (x ∷ h)
-      unfolding reliefNext reliefSignals pressureControl
-      up-next =
-          one-further timeOfRow loopOf Greater stageUpLevel hys stageUpTime up-band up-positive (blocks .«gre_thr2») (blocks .«up_tim») (blocks .pre) x h r
-          (finite-here timeOfRow x h o) (here .up .«up_gate») up-gate (here .up .«up_passed») up-pulse
+unfoldable upSide : Side upWay
+unfolding reliefBlocks reliefNext reliefSignals stageUp pressureControl
+upSide =
+    record {
+      thr = λ b. b .«gre_thr2»;
+      tim = λ b. b .«up_tim»;
+      pre = λ b. b .pre;
+      gate = λ g. g .up .«up_gate»;
+      passed = λ g. g .up .«up_passed»;
+      starts = begins timeOfRow loopOf upWay _ (threshold-new loopOf Greater stageUpLevel hys);
+      gate-is = λ b x a. refl;
+      passed-is = λ b x a. refl;
+      thr-next = λ b x a. refl;
+      tim-next = λ b x g. refl;
+      pre-next = λ b x g. refl;
+    }
 
-  module _ (r : DownReads blocks h) where
-    down-gate : here .down .«down_gate» ≡ gateOf timeOfRow loopOf Less minSpeed hys stageDownTime down-band down-positive (x ∷ h)
-    unfolding reliefSignals stageDown pressureControl
-    down-gate = gate-reads timeOfRow loopOf Less minSpeed hys stageDownTime down-band down-positive (blocks .«les_thr3») (blocks .«dow_tim») (blocks .pre1) x h r
+unfoldable downSide : Side downWay
+unfolding reliefBlocks reliefNext reliefSignals stageDown pressureControl
+downSide =
+    record {
+      thr = λ b. b .«les_thr3»;
+      tim = λ b. b .«dow_tim»;
+      pre = λ b. b .pre1;
+      gate = λ g. g .down .«down_gate»;
+      passed = λ g. g .down .«down_passed»;
+      starts = begins timeOfRow loopOf downWay _ (threshold-new loopOf Less minSpeed hys);
+      gate-is = λ b x a. refl;
+      passed-is = λ b x a. refl;
+      thr-next = λ b x a. refl;
+      tim-next = λ b x g. refl;
+      pre-next = λ b x g. refl;
+    }
 
-    module _ (o : T (inOrder timeOfRow (x ∷ h))) where
-      pub down-pulse : here .down .«down_passed» ≡ downPulse (x ∷ h)
-      unfolding reliefSignals stageDown
-      down-pulse =
-          pulse-reads timeOfRow loopOf Less minSpeed hys stageDownTime down-band down-positive (blocks .«les_thr3») (blocks .«dow_tim») (blocks .pre1) x h r
-          (finite-here timeOfRow x h o) (here .down .«down_gate») down-gate
+-- both pulses among the signals are the readings
+pub up-pulse : (x : ReliefRow) (h : Past) → T (inOrder timeOfRow (x ∷ h)) → signalsOf x h .up .«up_passed» ≡ upPulse (x ∷ h)
+unfolding upSide
+up-pulse x h o = pulse-is upWay upSide x h o
 
-      down-next : DownReads (reliefNext blocks x here) (x ∷ h)
-      unfolding reliefNext reliefSignals pressureControl
-      down-next =
-          one-further timeOfRow loopOf Less minSpeed hys stageDownTime down-band down-positive (blocks .«les_thr3») (blocks .«dow_tim») (blocks .pre1) x h r
-          (finite-here timeOfRow x h o) (here .down .«down_gate») down-gate (here .down .«down_passed») down-pulse
-
--- ---- over the times of accepted rows
-before : (x : ReliefRow) (h : Past) → T (inOrder timeOfRow (x ∷ h)) → T (inOrder timeOfRow h)
-before x h o = and-r (isTime (x .time) && notBefore timeOfRow (x .time) h) (inOrder timeOfRow h) o
-
-pub up-reads : (h : Past) → T (inOrder timeOfRow h) → UpReads (blocksOf h) h
-unfolding blocksOf
-up-reads [] o = unfold reliefBlocks in begins timeOfRow loopOf Greater stageUpLevel hys stageUpTime up-band up-positive _ (threshold-new loopOf Greater stageUpLevel hys)
-up-reads (x ∷ h) o = up-next (blocksOf h) x h (up-reads h (before x h o)) o
-
-pub down-reads : (h : Past) → T (inOrder timeOfRow h) → DownReads (blocksOf h) h
-unfolding blocksOf
-down-reads [] o = unfold reliefBlocks in begins timeOfRow loopOf Less minSpeed hys stageDownTime down-band down-positive _ (threshold-new loopOf Less minSpeed hys)
-down-reads (x ∷ h) o = down-next (blocksOf h) x h (down-reads h (before x h o)) o
-
-pub last-reads : (h : Past) → blocksOf h .last ≡ lastTime h
-unfolding blocksOf
-last-reads [] = unfold reliefBlocks in refl
-last-reads (x ∷ h) = unfold reliefNext in refl
+pub down-pulse : (x : ReliefRow) (h : Past) → T (inOrder timeOfRow (x ∷ h)) → signalsOf x h .down .«down_passed» ≡ downPulse (x ∷ h)
+unfolding downSide
+down-pulse x h o = pulse-is downWay downSide x h o

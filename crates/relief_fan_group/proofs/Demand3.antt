@@ -2,12 +2,11 @@
 -- alone tells, or else its mean and both pulses are those that document 01 reads off the accepted rows up to there. Assumes nothing.
 use Prim.Native.Nat.{ℕ, suc, _<_}
 use native.Mathlib.Omega.{arith}
-use mathlib.Core.Path.{_≡_, refl, sym, ap, _∙_}
+use mathlib.Core.Path.{_≡_, refl, ap, _∙_}
 use mathlib.Core.Bool.{Bool, true, false, not, _&&_}
 use mathlib.Core.List.{List, [], _∷_, map, reverse}
 use lib.Dec.{T}
 use lib.ListN.{length, getD, take}
-use lib.Ieee.{Float, lt}
 use lib.Ieee.Fits.{and-i, and-l, and-r}
 use lib.Ieee.Scale.{finite}
 use Rattle.reals.specs.Sign.{isTime}
@@ -17,31 +16,31 @@ use Rattle.refusals.specs.declared.Refusal.{Refusal}
 use Rattle.refusals.specs.declared.Verdict.{Verdict}
 use Rattle.refusals.specs.declared.Verdict.the-variants.{Accepted, Refused}
 use Rattle.refusals.specs.Refusals.{judge}
-use Rattle.past.specs.Stepped.{stepped, notBefore, inOrder}
+use Rattle.past.specs.Stepped.{notBefore, inOrder}
 use Rattle.past.specs.Whole.{Told, toldBy, nextBy, run, readAll}
+use Rattle.past.specs.Whole as whole
 use Rattle.past.proofs.Stepped.{seenOf, time-here}
-use Rattle.past.proofs.Whole.{run-reads, read-at, readNewest}
+use Rattle.past.proofs.Whole.{good-accepted, run-reads, read-at, readNewest}
 use Rattle.past.proofs.Judged.{judged-in-order}
 use Rattle.moving_average.specs.Past.{belowLast, timeAccepted, accepted, windowIsFull, movingAverageOf}
 use Rattle.moving_average.specs.State.{movingAverageIsFull}
 use Rattle.moving_average.proofs.Accepted.{accepted-cons}
 use Rattle.moving_average.proofs.Reading.{is-full-reads}
 use Rattle.relief_fan_group.specs.declared.types.ReliefRow.{ReliefRow}
-use Rattle.relief_fan_group.specs.declared.types.ReliefState.{ReliefState}
-use Rattle.relief_fan_group.specs.declared.types.ReliefSignals.{ReliefSignals}
 use Rattle.relief_fan_group.specs.Verdict.{numbersFinite, orWindowFull, reliefVerdict}
 use Rattle.relief_fan_group.specs.Signals.{pressureControl, reliefSignals}
 use Rattle.relief_fan_group.specs.Commands.{reliefCommands}
-use Rattle.relief_fan_group.specs.Step.{reliefFresh, reliefNext, reliefRow, signalsAt, stepBy}
+use Rattle.relief_fan_group.specs.Step.{reliefFresh, reliefRow, signalsAt, stepBy}
 use Rattle.relief_fan_group.specs.Reading.{Past, timeOfRow, pressureOfRow, mean, ReliefReading, reliefReading, lastTime, verdictOf}
+use Rattle.relief_fan_group.specs.Stages.{blocksOf, signalsOf}
 use Rattle.relief_fan_group.specs.Told.{pulsesTold, reliefTold, reliefReturned}
-use Rattle.relief_fan_group.proofs.Blocks.{blocksOf, stateOf, signalsOf, signals-are, fresh-is, up-pulse, down-pulse, up-reads, down-reads, last-reads}
+use Rattle.relief_fan_group.proofs.Blocks.{stateOf, signals-are, fresh-is, up-pulse, down-pulse, last-reads}
 
 -- ---- what holds of the accepted rows: their times are in order, and the window had room for each
 abbrev pub good : Past → Bool
 good h = inOrder timeOfRow h && accepted (map timeOfRow h)
 
-good-order : (h : Past) → T (good h) → T (inOrder timeOfRow h)
+pub good-order : (h : Past) → T (good h) → T (inOrder timeOfRow h)
 good-order h g = and-l (inOrder timeOfRow h) (accepted (map timeOfRow h)) g
 
 good-window : (h : Past) → T (good h) → T (accepted (map timeOfRow h))
@@ -100,17 +99,17 @@ good-more x h g e =
 
 -- ---- the answer and the returned state of a row after the past h
 -- the signals of an accepted row are the readings
-pub reads-here : (x : ReliefRow) (h : Past) → T (inOrder timeOfRow h) → T (inOrder timeOfRow (x ∷ h))
+pub reads-here : (x : ReliefRow) (h : Past) → T (inOrder timeOfRow (x ∷ h))
     → _≡_ {A = ReliefReading} (record { mean = signalsOf x h .control .average; up = signalsOf x h .up .«up_passed»; down = signalsOf x h .down .«down_passed» }) (reliefReading (x ∷ h))
 unfolding reliefReading
-reads-here x h p o = rw (up-pulse (blocksOf h) x h (up-reads h p) o, down-pulse (blocksOf h) x h (down-reads h p) o) (unfold reliefSignals pressureControl in refl)
+reads-here x h o = rw (up-pulse x h o, down-pulse x h o) (unfold reliefSignals pressureControl in refl)
 
 answers : (x : ReliefRow) (h : Past) → T (good h) → reliefTold (stateOf h) x ≡ toldBy (verdictOf h x) (reliefReading (x ∷ h))
 unfolding reliefRow
 answers x h g = ap (λ (v : Verdict). pulsesTold (stepBy v (stateOf h) x .answer) (signalsAt (stateOf h) x)) (verdict-is x h g) ∙ go (verdictOf h x) (good-more x h g)
   where
     go : (v : Verdict) → (v ≡ Accepted → T (good (x ∷ h))) → pulsesTold (stepBy v (stateOf h) x .answer) (signalsAt (stateOf h) x) ≡ toldBy v (reliefReading (x ∷ h))
-    go Accepted f = unfold stepBy reliefCommands in (rw (signals-are x h) (ap Told.Taken (reads-here x h (good-order h g) (good-order (x ∷ h) (f refl)))))
+    go Accepted f = unfold stepBy reliefCommands in (rw (signals-are x h) (ap Told.Taken (reads-here x h (good-order (x ∷ h) (f refl)))))
     go (Refused r) f = unfold stepBy in refl
 
 moves : (x : ReliefRow) (h : Past) → T (good h) → reliefReturned (stateOf h) x ≡ nextBy (verdictOf h x) (stateOf (x ∷ h)) (stateOf h)
@@ -124,6 +123,10 @@ moves x h g = ap (λ (v : Verdict). stepBy v (stateOf h) x .state) (verdict-is x
 good-none : T (good [])
 unfolding accepted
 good-none = tt
+
+-- the accepted rows of every list are so
+pub accepted-good : (l : List ReliefRow) → T (good (whole.accepted verdictOf l))
+accepted-good l = good-accepted verdictOf good reliefReading reliefTold reliefReturned stateOf good-none good-more answers moves l
 
 -- the whole list at once: the answers of the run are what the list tells at each place, in order
 pub demand-3 : (rows : List ReliefRow) → run reliefTold reliefReturned reliefFresh rows ≡ readAll verdictOf reliefReading [] rows

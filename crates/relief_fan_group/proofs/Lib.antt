@@ -1,5 +1,7 @@
--- The fact over the constants, the pulse, and the state as a function of the past.
+-- The fact over the constants; the pulse, the state as a function of the past, and the theorem over whole lists; missed stages; the alarms.
 pub mod Nearest
 pub mod Pulses
 pub mod Blocks
 pub mod Demand3
+pub mod Stages
+pub mod Alarms

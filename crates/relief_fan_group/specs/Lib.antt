@@ -6,3 +6,5 @@ pub mod Commands
 pub mod Step
 pub mod Reading
 pub mod Told
+pub mod Stages
+pub mod Alarms

@@ -1,6 +1,6 @@
 -- Every block's output at a row, in the order of ReliefFanGroup.mo (Buildings.Controls.OBC.ASHRAE.G36.AHUs.MultiZone.VAV.SetPoints.ReliefFanGroup) as
 -- relief_fan_group.rs has it.
-use mathlib.Core.Bool.{Bool, _&&_, _||_}
+use mathlib.Core.Bool.{_&&_, _||_}
 use lib.Ieee.{Float, binary64, sub, mul, div}
 use Rattle.reals.specs.Constants.{plusZero, one}
 use Rattle.reals.specs.Four.{flag}

@@ -16,7 +16,6 @@ use Rattle.relief_fan_group.specs.declared.types.ReliefRow.{ReliefRow}
 use Rattle.relief_fan_group.specs.declared.types.ReliefBlocks.{ReliefBlocks}
 use Rattle.relief_fan_group.specs.declared.types.ReliefState.{ReliefState}
 use Rattle.relief_fan_group.specs.declared.types.ReliefSignals.{ReliefSignals}
-use Rattle.relief_fan_group.specs.declared.types.ReliefAnswer.{ReliefAnswer}
 use Rattle.relief_fan_group.specs.declared.types.ReliefAnswer.the-variants as Answer
 use Rattle.relief_fan_group.specs.declared.types.ReliefStep.{ReliefStep}
 use Rattle.relief_fan_group.specs.Constants.{minSpeed, stageUpLevel, damperOpen, damperShut, hys, damperShutTime, stageUpTime, stageDownTime, proofTime}

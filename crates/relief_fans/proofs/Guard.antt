@@ -5,7 +5,7 @@ use mathlib.Core.Path.{_≡_, refl}
 use mathlib.Core.Bool.{Bool, true, false, not, _||_}
 use mathlib.Core.List.{List}
 use lib.IntN.{ℤ, pos}
-use lib.Ieee.{Float, binary64, mul, ofBits}
+use lib.Ieee.{binary64, mul, ofBits}
 use Rattle.reals.specs.Constants.{plusZero}
 use Rattle.reals.specs.Four.{flag}
 use Rattle.reals.specs.Switch.{boolToReal}

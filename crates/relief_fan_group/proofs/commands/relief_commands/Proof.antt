@@ -48,14 +48,16 @@ array-read-t40 c = search needs
 
 returns : tie.Need-returns
 unfolding reliefCommands
-returns c = rw (
-  ← c .before .before .before .before .before .fans-on .ensures,
-  ← c .before .before .before .before .switch .ensures,
-  ← c .before .before .before .any-of .ensures,
-  ← c .before .before .switch-each .ensures,
-  ← c .before .fan-speed .ensures,
-  ← c .damper .ensures,
-)
+returns c =
+    let c5 = c .before .before .before .before .before in
+    rw (
+      ← c5 .fans-on .ensures,
+      ← c .before .before .before .before .switch .ensures,
+      ← c .before .before .before .any-of .ensures,
+      ← c .before .before .switch-each .ensures,
+      ← c .before .fan-speed .ensures,
+      ← c .damper .ensures,
+    )
 
 pub relief-commands-spec : {M : Type 1} → statement M
 relief-commands-spec =

@@ -24,14 +24,16 @@ and-each-requires c κs = search needs
 
 returns : tie.Need-returns
 unfolding damperEnable
-returns c = rw (
-  ← c .before .before .before .before .before .before .output .ensures,
-  ← c .before .before .before .before .output2 .ensures,
-  ← c .before .before .before .output3 .ensures,
-  ← c .before .before .output4 .ensures,
-  ← c .before .threshold-outputs .ensures,
-  ← c .and-each .ensures,
-)
+returns c =
+    let c5 = c .before .before .before .before .before in
+    rw (
+      ← c5 .before .output .ensures,
+      ← c .before .before .before .before .output2 .ensures,
+      ← c .before .before .before .output3 .ensures,
+      ← c .before .before .output4 .ensures,
+      ← c .before .threshold-outputs .ensures,
+      ← c .and-each .ensures,
+    )
 
 pub damper-enable-spec : {M : Type 1} → statement M
 damper-enable-spec =

@@ -33,15 +33,17 @@ any-of-requires c κs = search needs
 
 returns : tie.Need-returns
 unfolding pressureControl
-returns c = rw (
-  ← c .before .before .before .before .before .before .ena-rel .ensures,
-  ← c .before .before .before .before .before .gai .ensures,
-  ← c .before .before .before .before .pressure-loop .ensures,
-  ← c .before .before .before .bool-to-real .ensures,
-  ← c .before .before .limit .ensures,
-  ← c .before .threshold-outputs .ensures,
-  ← c .any-of .ensures,
-)
+returns c =
+    let c5 = c .before .before .before .before .before in
+    rw (
+      ← c5 .before .ena-rel .ensures,
+      ← c5 .gai .ensures,
+      ← c .before .before .before .before .pressure-loop .ensures,
+      ← c .before .before .before .bool-to-real .ensures,
+      ← c .before .before .limit .ensures,
+      ← c .before .threshold-outputs .ensures,
+      ← c .any-of .ensures,
+    )
 
 pub pressure-control-spec : {M : Type 1} → statement M
 pressure-control-spec =

@@ -51,23 +51,26 @@ output-requires-4 c κs = search needs
 
 returns : tie.Need-returns
 unfolding stageDown
-returns c = rw (
-  ← c .before .before .before .before .before .before .before .before .before .before .before .before .before .before .pro2 .ensures,
-  ← c .before .before .before .before .before .before .before .before .before .before .before .before .before .threshold-outputs .ensures,
-  ← c .before .before .before .before .before .before .before .before .before .before .before .before .swi .ensures,
-  ← c .before .before .before .before .before .before .before .before .before .before .before .smallest .ensures,
-  ← c .before .before .before .before .before .before .before .before .before .before .distance .ensures,
-  ← c .before .before .before .before .before .before .before .before .before .threshold-outputs2 .ensures,
-  ← c .before .before .before .before .before .before .before .before .xor-each .ensures,
-  ← c .before .before .before .before .before .before .before .not-each .ensures,
-  ← c .before .before .before .before .before .before .delay-outputs .ensures,
-  ← c .before .before .before .before .before .xor-each2 .ensures,
-  ← c .before .before .before .before .all-of .ensures,
-  ← c .before .before .before .output .ensures,
-  ← c .before .before .output2 .ensures,
-  ← c .before .output3 .ensures,
-  ← c .output4 .ensures,
-)
+returns c =
+    let c5 = c .before .before .before .before .before in
+    let c10 = c5 .before .before .before .before .before in
+    rw (
+      ← c10 .before .before .before .before .pro2 .ensures,
+      ← c10 .before .before .before .threshold-outputs .ensures,
+      ← c10 .before .before .swi .ensures,
+      ← c10 .before .smallest .ensures,
+      ← c10 .distance .ensures,
+      ← c5 .before .before .before .before .threshold-outputs2 .ensures,
+      ← c5 .before .before .before .xor-each .ensures,
+      ← c5 .before .before .not-each .ensures,
+      ← c5 .before .delay-outputs .ensures,
+      ← c5 .xor-each2 .ensures,
+      ← c .before .before .before .before .all-of .ensures,
+      ← c .before .before .before .output .ensures,
+      ← c .before .before .output2 .ensures,
+      ← c .before .output3 .ensures,
+      ← c .output4 .ensures,
+    )
 
 pub stage-down-spec : {M : Type 1} → statement M
 stage-down-spec =

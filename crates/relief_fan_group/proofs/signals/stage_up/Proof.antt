@@ -57,25 +57,29 @@ output-requires-4 c κs = search needs
 
 returns : tie.Need-returns
 unfolding stageUp
-returns c = rw (
-  ← c .before .before .before .before .before .before .before .before .before .before .before .before .before .before .before .before .not-each .ensures,
-  ← c .before .before .before .before .before .before .before .before .before .before .before .before .before .before .before .all-of .ensures,
-  ← c .before .before .before .before .before .before .before .before .before .before .before .before .before .before .pro1 .ensures,
-  ← c .before .before .before .before .before .before .before .before .before .before .before .before .before .threshold-outputs .ensures,
-  ← c .before .before .before .before .before .before .before .before .before .before .before .before .swi .ensures,
-  ← c .before .before .before .before .before .before .before .before .before .before .before .swi3 .ensures,
-  ← c .before .before .before .before .before .before .before .before .before .before .smallest .ensures,
-  ← c .before .before .before .before .before .before .before .before .before .distance .ensures,
-  ← c .before .before .before .before .before .before .before .before .threshold-outputs2 .ensures,
-  ← c .before .before .before .before .before .before .before .or-each .ensures,
-  ← c .before .before .before .before .before .before .delay-outputs .ensures,
-  ← c .before .before .before .before .before .equal-each .ensures,
-  ← c .before .before .before .before .all-of2 .ensures,
-  ← c .before .before .before .output .ensures,
-  ← c .before .before .output2 .ensures,
-  ← c .before .output3 .ensures,
-  ← c .output4 .ensures,
-)
+returns c =
+    let c5 = c .before .before .before .before .before in
+    let c10 = c5 .before .before .before .before .before in
+    let c15 = c10 .before .before .before .before .before in
+    rw (
+      ← c15 .before .not-each .ensures,
+      ← c15 .all-of .ensures,
+      ← c10 .before .before .before .before .pro1 .ensures,
+      ← c10 .before .before .before .threshold-outputs .ensures,
+      ← c10 .before .before .swi .ensures,
+      ← c10 .before .swi3 .ensures,
+      ← c10 .smallest .ensures,
+      ← c5 .before .before .before .before .distance .ensures,
+      ← c5 .before .before .before .threshold-outputs2 .ensures,
+      ← c5 .before .before .or-each .ensures,
+      ← c5 .before .delay-outputs .ensures,
+      ← c5 .equal-each .ensures,
+      ← c .before .before .before .before .all-of2 .ensures,
+      ← c .before .before .before .output .ensures,
+      ← c .before .before .output2 .ensures,
+      ← c .before .output3 .ensures,
+      ← c .output4 .ensures,
+    )
 
 pub stage-up-spec : {M : Type 1} → statement M
 stage-up-spec =

@@ -51,23 +51,26 @@ new-requires-9 c κs = search needs
 
 returns : tie.Need-returns
 unfolding reliefBlocks
-returns c = rw (
-  c .before .before .before .before .before .before .before .before .before .before .before .before .before .before .above .ensures,
-  c .before .before .before .before .before .before .before .before .before .before .before .before .before .below .ensures,
-  c .before .before .before .before .before .before .before .before .before .before .before .before .new .ensures,
-  c .before .before .before .before .before .before .before .before .before .before .before .above2 .ensures,
-  c .before .before .before .before .before .before .before .before .before .before .below2 .ensures,
-  c .before .before .before .before .before .before .before .before .before .new2 .ensures,
-  c .before .before .before .before .before .before .before .before .new3 .ensures,
-  c .before .before .before .before .before .before .before .above3 .ensures,
-  c .before .before .before .before .before .before .new4 .ensures,
-  c .before .before .before .before .before .new5 .ensures,
-  c .before .before .before .before .new6 .ensures,
-  c .before .before .before .below3 .ensures,
-  c .before .before .new7 .ensures,
-  c .before .new8 .ensures,
-  c .new9 .ensures,
-)
+returns c =
+    let c5 = c .before .before .before .before .before in
+    let c10 = c5 .before .before .before .before .before in
+    rw (
+      c10 .before .before .before .before .above .ensures,
+      c10 .before .before .before .below .ensures,
+      c10 .before .before .new .ensures,
+      c10 .before .above2 .ensures,
+      c10 .below2 .ensures,
+      c5 .before .before .before .before .new2 .ensures,
+      c5 .before .before .before .new3 .ensures,
+      c5 .before .before .above3 .ensures,
+      c5 .before .new4 .ensures,
+      c5 .new5 .ensures,
+      c .before .before .before .before .new6 .ensures,
+      c .before .before .before .below3 .ensures,
+      c .before .before .new7 .ensures,
+      c .before .new8 .ensures,
+      c .new9 .ensures,
+    )
 
 pub relief-blocks-spec : {M : Type 1} → statement M
 relief-blocks-spec =

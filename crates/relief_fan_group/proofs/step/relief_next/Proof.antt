@@ -66,24 +66,29 @@ threshold-updates-requires-6 c κs = search needs
 
 returns : tie.Need-returns
 unfolding reliefNext
-returns c = rw (
-  ← c .before .before .before .before .before .before .before .before .before .before .before .before .before .before .before .before .before .before .before .before .before .update .ensures,
-  ← c .before .before .before .before .before .before .before .before .before .before .before .before .before .before .before .before .before .before .before .before .update2 .ensures,
-  ← c .before .before .before .before .before .before .before .before .before .before .before .before .before .before .before .before .before .before .before .update3 .ensures,
-  ← c .before .before .before .before .before .before .before .before .before .before .before .before .before .before .before .before .before .before .update4 .ensures,
-  ← c .before .before .before .before .before .before .before .before .before .before .before .before .before .before .before .before .before .threshold-updates .ensures,
-  ← c .before .before .before .before .before .before .before .before .before .before .before .before .before .before .before .before .update5 .ensures,
-  ← c .before .before .before .before .before .before .before .before .before .before .before .before .before .before .before .update6 .ensures,
-  ← c .before .before .before .before .before .before .before .before .before .before .before .before .before .update7 .ensures,
-  ← c .before .before .before .before .before .before .before .before .before .before .before .before .threshold-updates2 .ensures,
-  ← c .before .before .before .before .before .before .before .before .before .before .before .threshold-updates3 .ensures,
-)
+returns c =
+    let c5 = c .before .before .before .before .before in
+    let c10 = c5 .before .before .before .before .before in
+    let c15 = c10 .before .before .before .before .before in
+    let c20 = c15 .before .before .before .before .before in
+    rw (
+      ← c20 .before .update .ensures,
+      ← c20 .update2 .ensures,
+      ← c15 .before .before .before .before .update3 .ensures,
+      ← c15 .before .before .before .update4 .ensures,
+      ← c15 .before .before .threshold-updates .ensures,
+      ← c15 .before .update5 .ensures,
+      ← c15 .update6 .ensures,
+      ← c10 .before .before .before .update7 .ensures,
+      ← c10 .before .before .threshold-updates2 .ensures,
+      ← c10 .before .threshold-updates3 .ensures,
+    )
     (rw (
-      ← c .before .before .before .before .before .before .before .before .before .before .delay-updates .ensures,
-      ← c .before .before .before .before .before .before .before .before .before .update8 .ensures,
-      ← c .before .before .before .before .before .before .before .before .update9 .ensures,
-      ← c .before .before .before .before .before .before .before .update10 .ensures,
-      ← c .before .before .before .before .before .update11 .ensures,
+      ← c10 .delay-updates .ensures,
+      ← c5 .before .before .before .before .update8 .ensures,
+      ← c5 .before .before .before .update9 .ensures,
+      ← c5 .before .before .update10 .ensures,
+      ← c5 .update11 .ensures,
       ← c .before .before .before .before .threshold-updates4 .ensures,
       ← c .before .before .before .threshold-updates5 .ensures,
       ← c .before .before .delay-updates2 .ensures,
