@@ -176,15 +176,17 @@ module _ {Q : Type 0} (lineOf : Q → List ℕ → Answer Q) (line-cut : (q : Q)
           again x y f = ap (λ (z : List ℕ). record { next = f .next; part = f .part; said = z }) (sym (append-assoc x y (f .said)))
 
     -- no newline is left: the rest is kept
-    pub end : length chunk ≤ j → (line′ : List ℕ) (len′ : ℕ) → Kept line len (drop i chunk) line′ len′ → FedAs (feed lineOf q₀ p₀ chunk) q line′ len′ out sent
+    pub end : length chunk ≤ j → (line′ : List ℕ) (len′ : ℕ) → Kept line len (take (length chunk - i) (drop i chunk)) line′ len′
+        → FedAs (feed lineOf q₀ p₀ chunk) q line′ len′ out sent
     end none line′ len′ kept =
+        let t : take (length chunk - i) (drop i chunk) ≡ drop i chunk = take-all (length chunk - i) (drop i chunk) (omega (arith, length-drop i chunk)) in
         let b : beforeNewline (drop i chunk) ≡ length (drop i chunk) = omega (arith, length-drop i chunk, newline-within (drop i chunk), found, h .in-chunk) in
         let e : feed lineOf q₀ p₀ chunk ≡ record { next = q; part = take len line ++ drop i chunk; said = take sent out } =
         h .led ∙ ap (λ (f : Fed Q). after lineOf (take sent out) f) (feed-part lineOf q (take len line) (drop i chunk) b)
         ∙ ap (λ (x : List ℕ). record { next = q; part = take len line ++ drop i chunk; said = x }) (append-nil (take sent out)) in
         record {
           state = sym (ap (λ (f : Fed Q). f .next) e);
-          part = kept .bytes ∙ sym (ap (λ (f : Fed Q). cut (f .part)) e);
+          part = kept .bytes ∙ ap (λ (x : List ℕ). cut (take len line ++ x)) t ∙ sym (ap (λ (f : Fed Q). cut (f .part)) e);
           part-fits = kept .fits;
           said = sym (ap (λ (f : Fed Q). f .said) e);
           said-fits = omega (arith, h .out-fits, h .out-long, h .in-chunk);

@@ -91,7 +91,7 @@ pub record Kept (line : List ℕ) (len : ℕ) (more : List ℕ) (after : List �
 -- what answering a line leaves: the next state, and the answer in the buffer
 pub record Answered {Q : Type 0} (a : Answer Q) (buffer : List ℕ) (at : ℕ) (next : Q) (after : List ℕ) (place : ℕ) : Type 0 where
   pub state : next ≡ a .next
-  pub text : Wrote buffer at (a .said) after place
+  pub text : Wrote buffer at (a .said) (length (a .said)) after place
 
 -- what feeding a chunk leaves: the state, the part of a line in its buffer, and what is to be written at the start of another
 pub record FedAs {Q : Type 0} (f : Fed Q) (next : Q) (line : List ℕ) (len : ℕ) (out : List ℕ) (sent : ℕ) : Type 0 where

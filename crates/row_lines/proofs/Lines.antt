@@ -2,10 +2,13 @@
 use Prim.Native.Nat.{ℕ, zero, suc, _+_, _-_, _*_, _≤_, _<_}
 use mathlib.Core.Path.{_≡_, refl, sym, ap, ap₂, _∙_}
 use mathlib.Core.List.{List, [], _∷_, _++_}
+use mathlib.Core.Bool.{false}
 use native.Mathlib.Omega.{arith}
 use lib.ListN.{length, getD, take, drop, length-append, length-drop, take-append-drop}
 use lib.Seq.{take-at, drop-append-add, drop-drop}
-use Rattle.row_lines.specs.Line.{columnOf, joined}
+use Rattle.row_lines.specs.Column.{column}
+use Rattle.row_lines.specs.Line.{columnOf, joined, endOfLine, statusLine}
+use Rattle.row_lines.proofs.Inverse.{length-column}
 
 -- each of some columns has 21 bytes
 abbrev pub Wide : List (List ℕ) → Type 0
@@ -53,3 +56,8 @@ joined-column (c ∷ rest) (suc k) w h =
 pub length-joined : (cs : List (List ℕ)) → Wide cs → length (joined cs) ≡ 21 * length cs
 length-joined [] w = refl
 length-joined (c ∷ rest) w = length-append c (joined rest) ∙ ap₂ (λ (m n : ℕ). m + n) (w .0) (length-joined rest (w .1)) ∙ omega arith
+
+-- a status alone is a line of 22 bytes with its newline
+pub length-status : (n : ℕ) → length (statusLine n) ≡ 22
+unfolding statusLine
+length-status n = length-append (column false n) endOfLine ∙ ap (λ (k : ℕ). k + 1) (length-column false n)

@@ -10,6 +10,7 @@ use lib.Seq.{take-set-le, set-split, take-at, drop-at, drop-drop, append-snoc, l
 use lib.Dec.{ltb}
 use borrow.Author.Tests.{lt-ltb, le-ltb}
 use Rattle.row_lines.specs.Column.{pad, text, over, Wrote}
+use Rattle.row_lines.specs.Line.{joined}
 use Rattle.row_lines.proofs.Scanning.{length-pad, length-text, replicate-snoc}
 
 -- ---- a number written from its last digit on: the stores that are left
@@ -161,15 +162,42 @@ byte-over l at x h =
     set-split l at x h ∙ ap (λ (k : ℕ). take at l ++ x ∷ drop k l) e ∙ sym (append-snoc (take at l) x (drop (at + 1) l))
 
 -- two texts, the second where the first ends, are one
-pub wrote-both : (l l′ l″ : List ℕ) (at at′ at″ : ℕ) (a b : List ℕ) → at + length a ≤ length l
-    → Wrote l at a l′ at′ → Wrote l′ at′ b l″ at″ → Wrote l at (a ++ b) l″ at″
-wrote-both l l′ l″ at at′ at″ a b h p q =
+pub wrote-both : (l l′ l″ : List ℕ) (at at′ at″ : ℕ) (a b : List ℕ) (n m : ℕ) → at + n ≤ length l
+    → Wrote l at a n l′ at′ → Wrote l′ at′ b m l″ at″ → Wrote l at (a ++ b) (n + m) l″ at″
+wrote-both l l′ l″ at at′ at″ a b n m h p q =
+    let e : at + length a ≤ length l = omega (arith, p .long) in
+    let d : at′ ≡ at + length a = omega (arith, p .place, p .long) in
     record {
-      bytes =
-          q .bytes ∙ ap (λ (k : ℕ). over l′ k b) (p .place) ∙ ap (λ (x : List ℕ). over x (at + length a) b) (p .bytes) ∙ over-over l at a h b;
-      place = q .place ∙ ap (λ (k : ℕ). k + length b) (p .place) ∙ omega (arith, length-append a b);
+      bytes = q .bytes ∙ ap (λ (k : ℕ). over l′ k b) d ∙ ap (λ (x : List ℕ). over x (at + length a) b) (p .bytes) ∙ over-over l at a e b;
+      long = length-append a b ∙ omega (arith, p .long, q .long);
+      place = omega (arith, p .place, q .place);
     }
 
 -- a text written is written under another name for it
-pub wrote-as : {l l′ : List ℕ} {at at′ : ℕ} (a b : List ℕ) → a ≡ b → Wrote l at a l′ at′ → Wrote l at b l′ at′
-wrote-as {l} {l′} {at} {at′} a b e w = subst (λ (t : List ℕ). Wrote l at t l′ at′) e w
+pub wrote-as : {l l′ : List ℕ} {at at′ : ℕ} (a b : List ℕ) (n : ℕ) → a ≡ b → Wrote l at a n l′ at′ → Wrote l at b n l′ at′
+wrote-as {l} {l′} {at} {at′} a b n e w = subst (λ (t : List ℕ). Wrote l at t n l′ at′) e w
+
+-- and with its own length
+pub wrote-text : {l l′ : List ℕ} {at at′ : ℕ} (a b : List ℕ) (n : ℕ) → a ≡ b → Wrote l at a n l′ at′ → Wrote l at b (length b) l′ at′
+wrote-text {l} {l′} {at} {at′} a b n e w =
+    let k : n ≡ length b = sym (w .long) ∙ ap length e in
+    subst (λ (m : ℕ). Wrote l at b m l′ at′) k (wrote-as a b n e w)
+
+-- texts written one after another, each of n bytes, with the buffer and the place after it
+abbrev pub Chain : List ℕ → ℕ → List (List ℕ) → List ℕ → ℕ → Type 0
+Chain l at [] l″ at″ = (l″ ≡ l) × (at″ ≡ at)
+Chain l at (t ∷ rest) l″ at″ = (l′ : List ℕ) × (at′ : ℕ) × (n : ℕ) × Wrote l at t n l′ at′ × Chain l′ at′ rest l″ at″
+
+-- are the texts joined
+pub wrote-joined : (ts : List (List ℕ)) (l l″ : List ℕ) (at at″ n : ℕ) → length (joined ts) ≡ n → at + n ≤ length l → Chain l at ts l″ at″ → Wrote l at (joined ts) n l″ at″
+wrote-joined [] l l″ at at″ n e h c = record { bytes = c .0 ∙ paste-zero l at []; long = e; place = omega (arith, c .1) }
+wrote-joined (t ∷ rest) l l″ at at″ n e h c =
+    let w : Wrote l at t (c .2) (c .0) (c .1) = c .3 in
+    let m : ℕ = length (joined rest) in
+    let s : length (t ++ joined rest) ≡ length t + m = length-append t (joined rest) in
+    let g : at + length t ≤ length l = omega arith in
+    let f : c .2 + m ≡ n = omega (arith, w .long) in
+    let k : length (c .0) ≡ length l = ap length (w .bytes) ∙ length-over l at t g in
+    subst (λ (x : ℕ). Wrote l at (t ++ joined rest) x l″ at″) f
+    (wrote-both l (c .0) l″ at (c .1) at″ t (joined rest) (c .2) m (omega (arith, w .long)) w
+    (wrote-joined rest (c .0) l″ (c .1) at″ m refl (omega (arith, w .place, w .long)) (c .4)))

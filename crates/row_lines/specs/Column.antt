@@ -37,7 +37,8 @@ column negative n = text (mark negative) width n
 abbrev pub over : List ℕ → ℕ → List ℕ → List ℕ
 over buffer at t = take at buffer ++ t ++ drop (at + length t) buffer
 
--- what writing a text leaves: the buffer with that text in it and nothing else changed, and the place after the text
-pub record Wrote (buffer : List ℕ) (at : ℕ) (t : List ℕ) (after : List ℕ) (next : ℕ) : Type 0 where
+-- what writing a text of n bytes leaves: the buffer with that text in it and nothing else changed, and the place after the text
+pub record Wrote (buffer : List ℕ) (at : ℕ) (t : List ℕ) (n : ℕ) (after : List ℕ) (next : ℕ) : Type 0 where
   pub bytes : after ≡ over buffer at t
-  pub place : next ≡ at + length t
+  pub long : length t ≡ n
+  pub place : next ≡ at + n

@@ -21,14 +21,18 @@ newline = 10
 unfoldable pub columnOf : List ℕ → ℕ → List ℕ
 columnOf line k = take width (drop (width * k) line)
 
--- columns one after another
+-- what ends a line
+abbrev pub endOfLine : List ℕ
+endOfLine = newline ∷ []
+
+-- texts one after another
 abbrev pub joined : List (List ℕ) → List ℕ
 joined [] = []
 joined (c ∷ rest) = c ++ joined rest
 
 -- the line of a status alone
 unfoldable pub statusLine : ℕ → List ℕ
-statusLine status = unsignedColumn status ++ (newline ∷ [])
+statusLine status = unsignedColumn status ++ endOfLine
 
 -- what a line is read as, field by field: `then` of the value, or `bad` where the field is badly formed
 abbrev pub realThen : {A : Type 0} → A → Real → (Float → A) → A

@@ -29,7 +29,7 @@ fn fill(out: &mut [u8], at: usize, n: usize)
 // Helper. Writes a number, or its negation, into the 21 places from `at` on, its digits from the last on, and gives the place after them.
 pub fn write_column(out: &mut [u8], at: usize, negative: bool, n: u64) -> usize
     requires { ⌜ at + 21 ≤ length (now out) ⌝ }
-    ensures { λ r. ⌜ Wrote (now (out .entry)) at (column negative n) (now (out .exit)) r ⌝ }
+    ensures { λ r. ⌜ Wrote (now (out .entry)) at (column negative n) 21 (now (out .exit)) r ⌝ }
 {
     let before = mark(negative);
     let mut k: usize = 21;

@@ -120,7 +120,7 @@ pub fn read_real(column: &[u8]) -> Real
 // Helper. Writes an unsigned number into the 21 places from `at` on, and gives the place after them.
 pub fn write_unsigned(out: &mut [u8], at: usize, n: u64) -> usize
     requires { ⌜ at + 21 ≤ length (now out) ⌝ }
-    ensures { λ r. ⌜ Wrote (now (out .entry)) at (unsignedColumn n) (now (out .exit)) r ⌝ }
+    ensures { λ r. ⌜ Wrote (now (out .entry)) at (unsignedColumn n) 21 (now (out .exit)) r ⌝ }
 {
     write_column(out, at, false, n)
 }
@@ -144,7 +144,7 @@ fn height(z: i64) -> u64
 // Helper. Writes a signed number, as `write_unsigned` does.
 pub fn write_signed(out: &mut [u8], at: usize, z: i64) -> usize
     requires { ⌜ at + 21 ≤ length (now out) ⌝ }
-    ensures { λ r. ⌜ Wrote (now (out .entry)) at (signedColumn z) (now (out .exit)) r ⌝ }
+    ensures { λ r. ⌜ Wrote (now (out .entry)) at (signedColumn z) 21 (now (out .exit)) r ⌝ }
 {
     if z < 0 {
         return write_column(out, at, true, depth(z) + 1);
@@ -155,7 +155,7 @@ pub fn write_signed(out: &mut [u8], at: usize, z: i64) -> usize
 // Helper. Writes a yes or no.
 pub fn write_yes_no(out: &mut [u8], at: usize, b: bool) -> usize
     requires { ⌜ at + 21 ≤ length (now out) ⌝ }
-    ensures { λ r. ⌜ Wrote (now (out .entry)) at (yesNoColumn b) (now (out .exit)) r ⌝ }
+    ensures { λ r. ⌜ Wrote (now (out .entry)) at (yesNoColumn b) 21 (now (out .exit)) r ⌝ }
 {
     if b {
         return write_unsigned(out, at, 1);
@@ -166,7 +166,7 @@ pub fn write_yes_no(out: &mut [u8], at: usize, b: bool) -> usize
 // Helper. Writes a float, by its pattern.
 pub fn write_real(out: &mut [u8], at: usize, x: f64) -> usize
     requires { ⌜ at + 21 ≤ length (now out) ⌝ }
-    ensures { λ r. ⌜ Wrote (now (out .entry)) at (realColumn x) (now (out .exit)) r ⌝ }
+    ensures { λ r. ⌜ Wrote (now (out .entry)) at (realColumn x) 21 (now (out .exit)) r ⌝ }
 {
     write_unsigned(out, at, pattern(x))
 }

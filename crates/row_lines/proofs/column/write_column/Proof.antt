@@ -99,7 +99,8 @@ returns c =
     let g : a .at + l .k ≤ length (l .out) = omega arith in
     record {
       bytes = c .before .before .fill .ensures ∙ put-end (l .out) (a .at) _ (l .k) (l .rest) g (l .inv .0) d ∙ l .inv .4;
-      place = ap (λ (k : ℕ). a .at + k) (sym (length-column (a .negative) (a .n)));
+      long = length-column (a .negative) (a .n);
+      place = refl;
     }
 
 pub write-column-spec : {M : Type 1} → statement M

@@ -16,7 +16,7 @@ same-length : tie.Need-same-length
 same-length c = search needs
 
 returns : tie.Need-returns
-returns c = wrote-as _ _ (ap unsignedColumn (c .before .before .before .pattern .ensures)) (c .before .before .write-unsigned .ensures)
+returns c = wrote-as _ _ _ (ap unsignedColumn (c .before .before .before .pattern .ensures)) (c .before .before .write-unsigned .ensures)
 
 pub write-real-spec : {M : Type 1} → statement M
 write-real-spec = tie.close (tie.spec pattern-requires write-unsigned-requires same-length returns)

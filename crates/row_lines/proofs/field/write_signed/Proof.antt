@@ -27,7 +27,7 @@ same-length c = search needs
 returns : tie.Need-returns
 returns c =
     let s = c .before .before .before .before .before .before .before in
-    wrote-as _ _
+    wrote-as _ _ _
     (ap (λ (n : ℕ). column true n) (add-one _) ∙ ap signedColumn (sym (c .before .before .before .depth .ensures .0) ∙ toZ-ofZ w64 (s .args .z) (s .fits .z)))
     (c .before .before .write-column .ensures)
 
@@ -43,7 +43,7 @@ same-length-2 c = search needs
 returns-2 : tie.Need-returns-2
 returns-2 c =
     let s = c .before .before .before .before .before .before .before in
-    wrote-as _ _ (ap signedColumn (sym (c .before .before .before .height .ensures) ∙ toZ-ofZ w64 (s .args .z) (s .fits .z)))
+    wrote-as _ _ _ (ap signedColumn (sym (c .before .before .before .height .ensures) ∙ toZ-ofZ w64 (s .args .z) (s .fits .z)))
     (c .before .before .write-column2 .ensures)
 
 pub write-signed-spec : {M : Type 1} → statement M

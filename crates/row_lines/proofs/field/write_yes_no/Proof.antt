@@ -13,7 +13,7 @@ same-length : tie.Need-same-length
 same-length c = search needs
 
 returns : tie.Need-returns
-returns c = wrote-as _ _ (ap yesNoColumn (sym (c .before .before .before .before .if1 .taken))) (c .before .before .write-unsigned .ensures)
+returns c = wrote-as _ _ _ (ap yesNoColumn (sym (c .before .before .before .before .if1 .taken))) (c .before .before .write-unsigned .ensures)
 
 write-unsigned-requires-2 : tie.Need-write-unsigned-requires-2
 write-unsigned-requires-2 c κs = search needs
@@ -22,7 +22,7 @@ same-length-2 : tie.Need-same-length-2
 same-length-2 c = search needs
 
 returns-2 : tie.Need-returns-2
-returns-2 c = wrote-as _ _ (ap yesNoColumn (sym (c .before .before .before .before .if1 .left))) (c .before .before .write-unsigned2 .ensures)
+returns-2 c = wrote-as _ _ _ (ap yesNoColumn (sym (c .before .before .before .before .if1 .left))) (c .before .before .write-unsigned2 .ensures)
 
 pub write-yes-no-spec : {M : Type 1} → statement M
 write-yes-no-spec =

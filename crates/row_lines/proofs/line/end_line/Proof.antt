@@ -15,7 +15,7 @@ same-length : tie.Need-same-length
 same-length c = search needs
 
 returns : tie.Need-returns
-returns c = record { bytes = byte-over _ _ 10 (c .pre); place = refl }
+returns c = record { bytes = byte-over _ _ 10 (c .pre); long = refl; place = refl }
 
 pub end-line-spec : {M : Type 1} → statement M
 end-line-spec = tie.close (tie.spec slice-write-out add-result same-length returns)

@@ -1,0 +1,4 @@
+-- The laws that the proofs cite.
+pub mod Words
+pub mod EconLines
+pub mod FreezeLines
