@@ -2,3 +2,4 @@
 pub mod Words
 pub mod EconLines
 pub mod FreezeLines
+pub mod Reading

@@ -2,3 +2,4 @@
 pub mod Kind
 pub mod Econ
 pub mod Freeze
+pub mod Reader

@@ -93,7 +93,10 @@ fn write_answer(out: &mut [u8], at: usize, answer: EconomizerAnswer) -> usize
 {
     match answer {
         EconomizerAnswer::Commands(commands) => write_commands(out, at, commands),
-        EconomizerAnswer::Refused(refusal) => write_status_line(out, at, refusal.number()),
+        EconomizerAnswer::Refused(refusal) => {
+            let number = refusal.number();
+            write_status_line(out, at, number)
+        }
     }
 }
 

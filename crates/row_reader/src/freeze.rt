@@ -114,7 +114,10 @@ fn write_answer(out: &mut [u8], at: usize, answer: FreezeAnswer) -> usize
 {
     match answer {
         FreezeAnswer::Commands(commands) => write_commands(out, at, commands),
-        FreezeAnswer::Refused(refusal) => write_status_line(out, at, refusal.number()),
+        FreezeAnswer::Refused(refusal) => {
+            let number = refusal.number();
+            write_status_line(out, at, number)
+        }
     }
 }
 

@@ -36,7 +36,7 @@ same-length-2 c = search needs
 
 returns-2 : tie.Need-returns-2
 unfolding freezeAnswerLine
-returns-2 c = wrote-text _ _ _ (ap statusLine (c .before .before .before .number .ensures) ∙ ap freezeAnswerLine (sym (c .before .before .before .before .before .before .answer2 .given .1))) (c .before .before .write-status-line .ensures)
+returns-2 c = wrote-text _ _ _ (ap statusLine (c .before .before .before .before .number .ensures) ∙ ap freezeAnswerLine (sym (c .before .before .before .before .before .before .answer2 .given .1))) (c .before .before .write-status-line .ensures)
 
 pub write-answer-spec : {M : Type 1} → statement M
 write-answer-spec =
