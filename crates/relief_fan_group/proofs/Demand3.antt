@@ -129,10 +129,10 @@ pub accepted-good : (l : List ReliefRow) → T (good (whole.accepted verdictOf l
 accepted-good l = good-accepted verdictOf good reliefReading reliefTold reliefReturned stateOf good-none good-more answers moves l
 
 -- the whole list at once: the answers of the run are what the list tells at each place, in order
-pub demand-3 : (rows : List ReliefRow) → run reliefTold reliefReturned reliefFresh rows ≡ readAll verdictOf reliefReading [] rows
-demand-3 rows = rw fresh-is (run-reads verdictOf good reliefReading reliefTold reliefReturned stateOf good-none good-more answers moves rows)
+pub relief-demand-3 : (rows : List ReliefRow) → run reliefTold reliefReturned reliefFresh rows ≡ readAll verdictOf reliefReading [] rows
+relief-demand-3 rows = rw fresh-is (run-reads verdictOf good reliefReading reliefTold reliefReturned stateOf good-none good-more answers moves rows)
 
 -- the same place by place: row i gets what the rows 0 to i tell
-pub demand-3-at : (other : Told ReliefReading) (rows : List ReliefRow) (i : ℕ) → i < length rows
+pub relief-demand-3-at : (other : Told ReliefReading) (rows : List ReliefRow) (i : ℕ) → i < length rows
     → getD (run reliefTold reliefReturned reliefFresh rows) i other ≡ readNewest verdictOf reliefReading other (reverse (take (suc i) rows))
-demand-3-at other rows i l = rw (demand-3 rows) (read-at verdictOf reliefReading other [] rows i l)
+relief-demand-3-at other rows i l = rw (relief-demand-3 rows) (read-at verdictOf reliefReading other [] rows i l)
