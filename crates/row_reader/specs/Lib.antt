@@ -1,5 +1,3 @@
 -- The row reader: the first line, and the lines of each kind.
 pub mod Kind
-pub mod Econ
-pub mod Freeze
 pub mod Reader

@@ -1,0 +1,2 @@
+-- Economizer lines.
+pub mod Econ

@@ -1,0 +1,2 @@
+-- Freeze lines.
+pub mod Freeze
