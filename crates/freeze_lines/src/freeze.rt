@@ -1,6 +1,7 @@
 // Freeze lines: a line read as a row, a row answered by a line, and the lines of a chunk.
 ghost use mathlib.Core.Path.{_≡_};
 ghost use Prim.Native.Nat.{_+_, _*_, _≤_};
+ghost use mathlib.Core.List.{_++_};
 ghost use lib.ListN.{length, take};
 ghost use Rattle.row_lines.specs.Column.{Wrote};
 ghost use Rattle.lines.specs.Lines.{feed, Answered, FedAs};
@@ -150,6 +151,25 @@ pub fn answer_freeze(state: FreezeState, line: &[u8], out: &mut [u8], at: usize)
     }
 }
 
+// Answers the line made of the `had` bytes kept of it and of more bytes, in the bytes from `at` on. A line of which nothing is kept is not copied.
+fn turn_freeze(
+    state: FreezeState,
+    line: &mut [u8],
+    had: usize,
+    more: &[u8],
+    out: &mut [u8],
+    at: usize,
+) -> FreezeSent
+    requires { ⌜ (length (now line) ≡ 256) × (had ≤ 256) × (at + 22 * (had + length (now more) + 1) ≤ length (now out)) ⌝ }
+    ensures { λ r. ⌜ Answered (freezeAnswered state (take had (now (line .entry)) ++ now (more .entry))) (now (out .entry)) at (r .state) (now (out .exit)) (r .at) ⌝ }
+{
+    if had == 0 {
+        return answer_freeze(state, more, out, at);
+    }
+    let len = keep(line, had, more);
+    answer_freeze(state, &line[..len], out, at)
+}
+
 // The state after a chunk, the bytes kept of a line that has not ended, and the bytes to be written.
 pub struct FreezeFed {
     pub state: FreezeState,
@@ -174,8 +194,7 @@ pub fn feed_freeze(
     let mut i: usize = 0;
     let mut j = line_end(chunk, 0);
     while j < chunk.len() {
-        len = keep(line, len, &chunk[i..j]);
-        let answered = answer_freeze(state, &line[..len], out, sent);
+        let answered = turn_freeze(state, line, len, &chunk[i..j], out, sent);
         let following = answered.state;
         state = following;
         sent = answered.at;

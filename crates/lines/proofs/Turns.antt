@@ -1,6 +1,6 @@
 -- A loop over the lines of a chunk: what a turn of it keeps, for any state and any answer to a line. Assumes nothing.
 use Prim.Native.Nat.{ℕ, zero, suc, _+_, _-_, _*_, _≤_, _<_}
-use mathlib.Core.Path.{_≡_, refl, sym, ap, _∙_}
+use mathlib.Core.Path.{_≡_, refl, sym, ap, subst, _∙_}
 use mathlib.Core.List.{List, [], _∷_, _++_, append-assoc, append-nil}
 use mathlib.Core.Bool.{Bool, true, false, cond}
 use native.Mathlib.Omega.{arith}
@@ -94,16 +94,26 @@ module _ {Q : Type 0} (lineOf : Q → List ℕ → Answer Q) where
 
 -- ---- a turn of the loop
 
--- a part kept is no longer than what it is kept of
-kept-length : (line : List ℕ) (len : ℕ) (more line′ : List ℕ) (len′ : ℕ) → Kept line len more line′ len′ → length line ≡ 256 → length line′ ≡ 256 → len ≤ 256
-    → len′ ≤ len + length more
-kept-length line len more line′ len′ k l l′ h =
-    let a : length (take len′ line′) ≡ len′ = length-take-le len′ line′ (omega (arith, k .fits)) in
-    let b : length (take len line) ≡ len = length-take-le len line (omega arith) in
-    omega (arith, ap length (k .bytes), length-take 256 (take len line ++ more), length-append (take len line) more)
+-- a part kept has its length, which is no longer than what it is kept of
+module _ (line : List ℕ) (len : ℕ) (more line′ : List ℕ) (len′ : ℕ) (k : Kept line len more line′ len′) (l : length line ≡ 256) (l′ : length line′ ≡ length line) where
+  pub part-length : length (take len′ line′) ≡ len′
+  part-length = length-take-le len′ line′ (omega (arith, k .fits))
+
+  pub kept-length : length (take len′ line′) ≤ len + length more
+  kept-length = omega (arith, ap length (k .bytes), length-take 256 (take len line ++ more), length-append (take len line) more, length-take len line)
 
 module _ {Q : Type 0} (lineOf : Q → List ℕ → Answer Q) (line-cut : (q : Q) (p : List ℕ) → lineOf q (cut p) ≡ lineOf q p)
     (room : (q : Q) (l : List ℕ) → length (lineOf q l .said) ≤ 22 * (length l + 1)) where
+  -- the answer to a line of which nothing was kept, and to the bytes kept of one, is the answer to the whole of it
+  module _ (q : Q) (line : List ℕ) (len : ℕ) (more out : List ℕ) (at : ℕ) (next : Q) (out′ : List ℕ) (at′ : ℕ) where
+    pub as-whole : len ≡ 0 → Answered (lineOf q more) out at next out′ at′ → Answered (lineOf q (take len line ++ more)) out at next out′ at′
+    as-whole e = subst (λ (a : Answer Q). Answered a out at next out′ at′) (ap (λ (n : ℕ). lineOf q (take n line ++ more)) (sym e))
+
+    pub as-kept : (line′ : List ℕ) (len′ : ℕ) → Kept line len more line′ len′ → Answered (lineOf q (take len′ line′)) out at next out′ at′
+        → Answered (lineOf q (take len line ++ more)) out at next out′ at′
+    as-kept line′ len′ k =
+        subst (λ (a : Answer Q). Answered a out at next out′ at′) (ap (λ (x : List ℕ). lineOf q x) (k .bytes) ∙ line-cut q (take len line ++ more))
+
   -- what holds at each turn, at the place i of the chunk: what is left to do gives what the whole chunk gives, and 22 bytes of room are used at most
   -- for each byte passed
   pub record Held (chunk out₀ : List ℕ) (q₀ : Q) (p₀ line out : List ℕ) (q : Q) (len sent i : ℕ) : Type 0 where
@@ -121,36 +131,24 @@ module _ {Q : Type 0} (lineOf : Q → List ℕ → Answer Q) (line-cut : (q : Q)
   module _ (chunk out₀ : List ℕ) (q₀ : Q) (p₀ line out : List ℕ) (q : Q) (len sent i : ℕ) (h : Held chunk out₀ q₀ p₀ line out q len sent i)
       (fits : 22 * (256 + length chunk) ≤ length out₀) (j : ℕ) (found : j ≡ i + beforeNewline (drop i chunk)) where
     -- a newline at the place j
-    module _ (ends : j < length chunk) (line′ : List ℕ) (len′ : ℕ) (kept : Kept line len (take (j - i) (drop i chunk)) line′ len′) (same : length line′ ≡ length line) where
-      ends-rest : beforeNewline (drop i chunk) < length (drop i chunk)
-      ends-rest = omega (arith, length-drop i chunk)
-
-      longer : len′ ≤ len + (j - i)
-      longer =
-          omega (
-            arith,
-            kept-length line len (take (j - i) (drop i chunk)) line′ len′ kept (h .line-long) (same ∙ h .line-long) (h .part-fits),
-            length-take (j - i) (drop i chunk),
-          )
-
-      length-line : length (take len′ line′) ≡ len′
-      length-line = length-take-le len′ line′ (omega (arith, kept .fits, same, h .line-long))
-
+    module _ (ends : j < length chunk) where
       -- there is room for the answer
-      pub answer-fits : sent + 22 * (length (take len′ line′) + 1) ≤ length out
-      answer-fits = omega (arith, length-line, longer, h .out-fits, h .out-long, h .in-chunk, found)
+      pub answer-fits : sent + 22 * (len + length (take (j - i) (drop i chunk)) + 1) ≤ length out
+      answer-fits = omega (arith, length-take (j - i) (drop i chunk), h .out-fits, h .out-long, h .in-chunk, found)
 
-      pub turn : (q′ : Q) (out′ : List ℕ) (sent′ : ℕ) → Answered (lineOf q (take len′ line′)) out sent q′ out′ sent′ → length out′ ≡ length out
+      pub turn : (line′ : List ℕ) → length line′ ≡ length line → (q′ : Q) (out′ : List ℕ) (sent′ : ℕ)
+          → Answered (lineOf q (take len line ++ take (j - i) (drop i chunk))) out sent q′ out′ sent′ → length out′ ≡ length out
           → Held chunk out₀ q₀ p₀ line′ out′ q′ 0 sent′ (j + 1)
-      turn q′ out′ sent′ a l =
+      turn line′ same q′ out′ sent′ a l =
           let k : ℕ = beforeNewline (drop i chunk) in
-          let d : Answer Q = lineOf q (take len′ line′) in
           let m : j - i ≡ k = omega (arith, found) in
-          let t : take len line ++ take (j - i) (drop i chunk) ≡ take len line ++ take k (drop i chunk) =
-          ap (λ (n : ℕ). take len line ++ take n (drop i chunk)) m in
-          let e : lineOf q (take len line ++ take k (drop i chunk)) ≡ d =
-          sym (ap (λ (x : List ℕ). lineOf q x) (kept .bytes ∙ ap cut t) ∙ line-cut q (take len line ++ take k (drop i chunk))) in
-          let n : length (d .said) ≤ 22 * (length (take len′ line′) + 1) = room q (take len′ line′) in
+          let ends-rest : k < length (drop i chunk) = omega (arith, length-drop i chunk) in
+          let text : List ℕ = take len line ++ take (j - i) (drop i chunk) in
+          let d : Answer Q = lineOf q text in
+          let e : lineOf q (take len line ++ take k (drop i chunk)) ≡ d = sym (ap (λ (n : ℕ). lineOf q (take len line ++ take n (drop i chunk))) m) in
+          let z : length text ≤ len + length (take (j - i) (drop i chunk)) =
+          omega (arith, length-append (take len line) (take (j - i) (drop i chunk)), length-take len line) in
+          let n : length (d .said) ≤ 22 * (length text + 1) = room q text in
           let s : i + suc k ≡ j + 1 = omega (arith, found) in
           let r : drop (suc k) (drop i chunk) ≡ drop (j + 1) chunk = drop-drop (suc k) i chunk ∙ ap (λ (n : ℕ). drop n chunk) s in
           let w : sent + length (d .said) ≤ length out = omega (arith, answer-fits) in
@@ -161,7 +159,7 @@ module _ {Q : Type 0} (lineOf : Q → List ℕ → Answer Q) (line-cut : (q : Q)
             line-long = same ∙ h .line-long;
             out-long = l ∙ h .out-long;
             part-fits = omega arith;
-            out-fits = omega (arith, a .text .place, length-line, longer, h .out-fits, h .in-chunk, found);
+            out-fits = omega (arith, a .text .place, length-take (j - i) (drop i chunk), h .out-fits, h .in-chunk, found);
             led =
                 h .led
                 ∙ ap (λ (f : Fed Q). after lineOf (take sent out) f)

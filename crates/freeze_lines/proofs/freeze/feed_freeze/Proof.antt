@@ -4,7 +4,6 @@ use Prim.Native.Nat.{ℕ, _+_, _-_, _*_, _≤_, _<_}
 use mathlib.Core.Path.{_≡_, refl, sym, ap, _∙_}
 use native.Mathlib.Omega.{arith}
 use lib.ListN.{length, take, drop}
-use lib.Seq.{length-take-le}
 use borrow.Author.Needs.{needs}
 use Rattle.lines.specs.Lines.{beforeNewline}
 use Rattle.lines.proofs.Turns.{Held, start, answer-fits, turn, end}
@@ -28,6 +27,37 @@ loop-holds c =
     let s = c .before .before .before .before in
     (start freezeAnswered freeze-cut freeze-room _ _ _ _ _ (s .pre .0) (s .pre .1), c .line-end .ensures)
 
+sub-turn-freeze : tie.Need-sub-turn-freeze Inv-loop μ-loop
+sub-turn-freeze c = search needs
+
+part-turn-freeze-start : tie.Need-part-turn-freeze-start Inv-loop μ-loop
+part-turn-freeze-start c = search needs
+
+part-turn-freeze-end : tie.Need-part-turn-freeze-end Inv-loop μ-loop
+part-turn-freeze-end c = search needs
+
+turn-freeze-requires : tie.Need-turn-freeze-requires Inv-loop μ-loop
+turn-freeze-requires c κs =
+    let l = c .before .before .before .before .loop in
+    (l .inv .0 .line-long, l .inv .0 .part-fits, answer-fits freezeAnswered freeze-cut freeze-room _ _ _ _ _ _ _ _ _ _ (l .inv .0) (c .before .before .before .before .before .before .before .before .before .pre .2) _ (l .inv .1) (c .before .before .before .loop-test .taken))
+
+add-i : tie.Need-add-i Inv-loop μ-loop
+add-i c = omega (arith, c .before .before .before .before .before .before .before .before .before .loop-test .taken, c .before .before .before .before .before .before .before .before .before .before .before .before .before .before .before .good .0 .0)
+
+line-end-requires-2 : tie.Need-line-end-requires-2 Inv-loop μ-loop
+line-end-requires-2 c κs = search needs
+
+loop-less : tie.Need-loop-less Inv-loop μ-loop
+loop-less c = search needs
+
+loop-again : tie.Need-loop-again Inv-loop μ-loop
+loop-again c =
+    let l = c .before .before .before .before .before .before .before .before .before .before .before .loop in
+    let a = c .before .before .before .before .before .before .turn-freeze in (
+      turn freezeAnswered freeze-cut freeze-room _ _ _ _ _ _ _ _ _ _ (l .inv .0) (c .before .before .before .before .before .before .before .before .before .before .before .before .before .before .before .before .pre .2) _ (l .inv .1) (c .before .before .before .before .before .before .before .before .before .before .loop-test .taken) _ (a .kept .1 .0) _ _ _ (a .ensures) (a .kept .1 .1 .1 .1 .0),
+      c .line-end2 .ensures,
+    )
+
 sub-keep : tie.Need-sub-keep Inv-loop μ-loop
 sub-keep c = search needs
 
@@ -40,51 +70,6 @@ part-keep-end c = search needs
 keep-requires : tie.Need-keep-requires Inv-loop μ-loop
 keep-requires c κs = search needs
 
-slice-reshare-prefix-answer-freeze : tie.Need-slice-reshare-prefix-answer-freeze Inv-loop μ-loop
-slice-reshare-prefix-answer-freeze c = search needs
-
-slice-aggregate-answer-freeze : tie.Need-slice-aggregate-answer-freeze Inv-loop μ-loop
-slice-aggregate-answer-freeze c =
-    let k = c .before .before .before .keep in
-    let h : k .result ≤ length (k .last .0) = omega (arith, k .ensures .fits, k .kept .0, c .before .before .before .before .before .before .before .loop .inv .0 .line-long) in
-    sym (length-take-le (k .result) (k .last .0) h)
-
-answer-freeze-requires : tie.Need-answer-freeze-requires Inv-loop μ-loop
-answer-freeze-requires c κs =
-    let l = c .before .before .before .before .before .before .before .before .loop in
-    let k = c .before .before .before .before .keep in
-    answer-fits freezeAnswered freeze-cut freeze-room _ _ _ _ _ _ _ _ _ _ (l .inv .0) (c .before .before .before .before .before .before .before .before .before .before .before .before .before .pre .2) _ (l .inv .1) (c .before .before .before .before .before .before .before .loop-test .taken) _ _ (k .ensures) (k .kept .0)
-
-add-i : tie.Need-add-i Inv-loop μ-loop
-add-i c = omega (arith, c .before .before .before .before .before .before .before .before .before .before .before .loop-test .taken, c .before .before .before .before .before .before .before .before .before .before .before .before .before .before .before .before .before .good .0 .0)
-
-line-end-requires-2 : tie.Need-line-end-requires-2 Inv-loop μ-loop
-line-end-requires-2 c κs = search needs
-
-loop-less : tie.Need-loop-less Inv-loop μ-loop
-loop-less c = search needs
-
-loop-again : tie.Need-loop-again Inv-loop μ-loop
-loop-again c =
-    let l = c .before .before .before .before .before .before .before .before .before .before .before .before .before .loop in
-    let k = c .before .before .before .before .before .before .before .before .before .keep in
-    let a = c .before .before .before .before .answer-freeze in (
-      turn freezeAnswered freeze-cut freeze-room _ _ _ _ _ _ _ _ _ _ (l .inv .0) (c .before .before .before .before .before .before .before .before .before .before .before .before .before .before .before .before .before .before .pre .2) _ (l .inv .1) (c .before .before .before .before .before .before .before .before .before .before .before .before .loop-test .taken) _ _ (k .ensures) (k .kept .0) _ _ _ (a .ensures) (a .kept .1 .1 .0),
-      c .line-end2 .ensures,
-    )
-
-sub-keep-2 : tie.Need-sub-keep-2 Inv-loop μ-loop
-sub-keep-2 c = search needs
-
-part-keep-start-2 : tie.Need-part-keep-start-2 Inv-loop μ-loop
-part-keep-start-2 c = search needs
-
-part-keep-end-2 : tie.Need-part-keep-end-2 Inv-loop μ-loop
-part-keep-end-2 c = search needs
-
-keep-requires-2 : tie.Need-keep-requires-2 Inv-loop μ-loop
-keep-requires-2 c κs = search needs
-
 same-length : tie.Need-same-length Inv-loop μ-loop
 same-length c = search needs
 
@@ -94,7 +79,7 @@ same-length-2 c = search needs
 returns : tie.Need-returns Inv-loop μ-loop
 returns c =
     let l = c .before .before .before .before .before .before .loop in
-    end freezeAnswered freeze-cut freeze-room _ _ _ _ _ _ _ _ _ _ (l .inv .0) (c .before .before .before .before .before .before .before .before .before .before .before .pre .2) _ (l .inv .1) (c .before .before .before .before .before .loop-test .left) _ _ (c .before .before .keep2 .ensures)
+    end freezeAnswered freeze-cut freeze-room _ _ _ _ _ _ _ _ _ _ (l .inv .0) (c .before .before .before .before .before .before .before .before .before .before .before .pre .2) _ (l .inv .1) (c .before .before .before .before .before .loop-test .left) _ _ (c .before .before .keep .ensures)
 
 pub feed-freeze-spec : {M : Type 1} → statement M
 feed-freeze-spec =
@@ -104,21 +89,18 @@ feed-freeze-spec =
     μ-loop
     line-end-requires
     loop-holds
-    sub-keep
-    part-keep-start
-    part-keep-end
-    keep-requires
-    slice-reshare-prefix-answer-freeze
-    slice-aggregate-answer-freeze
-    answer-freeze-requires
+    sub-turn-freeze
+    part-turn-freeze-start
+    part-turn-freeze-end
+    turn-freeze-requires
     add-i
     line-end-requires-2
     loop-less
     loop-again
-    sub-keep-2
-    part-keep-start-2
-    part-keep-end-2
-    keep-requires-2
+    sub-keep
+    part-keep-start
+    part-keep-end
+    keep-requires
     same-length
     same-length-2
     returns)
