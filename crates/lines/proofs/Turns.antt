@@ -1,6 +1,6 @@
 -- A loop over the lines of a chunk: what a turn of it keeps, for any state and any answer to a line. Assumes nothing.
 use Prim.Native.Nat.{ℕ, zero, suc, _+_, _-_, _*_, _≤_, _<_}
-use mathlib.Core.Path.{_≡_, refl, sym, ap, _∙_}
+use mathlib.Core.Path.{_≡_, refl, sym, ap, subst, _∙_}
 use mathlib.Core.List.{List, [], _∷_, _++_, append-assoc, append-nil}
 use mathlib.Core.Bool.{Bool, true, false, cond}
 use native.Mathlib.Omega.{arith}
@@ -121,39 +121,41 @@ module _ {Q : Type 0} (lineOf : Q → List ℕ → Answer Q) (line-cut : (q : Q)
   module _ (chunk out₀ : List ℕ) (q₀ : Q) (p₀ line out : List ℕ) (q : Q) (len sent i : ℕ) (h : Held chunk out₀ q₀ p₀ line out q len sent i)
       (fits : 22 * (256 + length chunk) ≤ length out₀) (j : ℕ) (found : j ≡ i + beforeNewline (drop i chunk)) where
     -- a newline at the place j
-    module _ (ends : j < length chunk) (line′ : List ℕ) (len′ : ℕ) (kept : Kept line len (take (j - i) (drop i chunk)) line′ len′) (same : length line′ ≡ length line) where
-      ends-rest : beforeNewline (drop i chunk) < length (drop i chunk)
-      ends-rest = omega (arith, length-drop i chunk)
+    module _ (ends : j < length chunk) where
+      -- the line that it ends
+      abbrev ended : List ℕ
+      ended = take len line ++ take (j - i) (drop i chunk)
 
-      longer : len′ ≤ len + (j - i)
-      longer =
+      part-length : length (take (j - i) (drop i chunk)) ≡ j - i
+      part-length = length-take-le (j - i) (drop i chunk) (omega (arith, length-drop i chunk))
+
+      ended-length : length ended ≡ len + (j - i)
+      ended-length =
           omega (
             arith,
-            kept-length line len (take (j - i) (drop i chunk)) line′ len′ kept (h .line-long) (same ∙ h .line-long) (h .part-fits),
-            length-take (j - i) (drop i chunk),
+            length-append (take len line) (take (j - i) (drop i chunk)),
+            part-length,
+            length-take-le len line (omega (arith, h .line-long, h .part-fits)),
           )
 
-      length-line : length (take len′ line′) ≡ len′
-      length-line = length-take-le len′ line′ (omega (arith, kept .fits, same, h .line-long))
+      -- there is room for its answer
+      pub line-fits : sent + 22 * (len + length (take (j - i) (drop i chunk)) + 1) ≤ length out
+      line-fits = omega (arith, part-length, h .out-fits, h .out-long, h .in-chunk, found)
 
-      -- there is room for the answer
-      pub answer-fits : sent + 22 * (length (take len′ line′) + 1) ≤ length out
-      answer-fits = omega (arith, length-line, longer, h .out-fits, h .out-long, h .in-chunk, found)
-
-      pub turn : (q′ : Q) (out′ : List ℕ) (sent′ : ℕ) → Answered (lineOf q (take len′ line′)) out sent q′ out′ sent′ → length out′ ≡ length out
+      -- and after it the loop goes on with no part of a line
+      pub turn-line : (line′ : List ℕ) → length line′ ≡ length line → (q′ : Q) (out′ : List ℕ) (sent′ : ℕ)
+          → Answered (lineOf q (take len line ++ take (j - i) (drop i chunk))) out sent q′ out′ sent′ → length out′ ≡ length out
           → Held chunk out₀ q₀ p₀ line′ out′ q′ 0 sent′ (j + 1)
-      turn q′ out′ sent′ a l =
+      turn-line line′ same q′ out′ sent′ a l =
           let k : ℕ = beforeNewline (drop i chunk) in
-          let d : Answer Q = lineOf q (take len′ line′) in
+          let d : Answer Q = lineOf q ended in
           let m : j - i ≡ k = omega (arith, found) in
-          let t : take len line ++ take (j - i) (drop i chunk) ≡ take len line ++ take k (drop i chunk) =
-          ap (λ (n : ℕ). take len line ++ take n (drop i chunk)) m in
           let e : lineOf q (take len line ++ take k (drop i chunk)) ≡ d =
-          sym (ap (λ (x : List ℕ). lineOf q x) (kept .bytes ∙ ap cut t) ∙ line-cut q (take len line ++ take k (drop i chunk))) in
-          let n : length (d .said) ≤ 22 * (length (take len′ line′) + 1) = room q (take len′ line′) in
+          ap (λ (n : ℕ). lineOf q (take len line ++ take n (drop i chunk))) (sym m) in
+          let n : length (d .said) ≤ 22 * (length ended + 1) = room q ended in
           let s : i + suc k ≡ j + 1 = omega (arith, found) in
           let r : drop (suc k) (drop i chunk) ≡ drop (j + 1) chunk = drop-drop (suc k) i chunk ∙ ap (λ (n : ℕ). drop n chunk) s in
-          let w : sent + length (d .said) ≤ length out = omega (arith, answer-fits) in
+          let w : sent + length (d .said) ≤ length out = omega (arith, line-fits, part-length, ended-length) in
           let o : take sent′ out′ ≡ take sent out ++ d .said =
           ap (λ (x : List ℕ). take sent′ x) (a .text .bytes) ∙ ap (λ (n : ℕ). take n (over out sent (d .said))) (a .text .place) ∙ take-over out sent (d .said) w in
           record {
@@ -161,11 +163,11 @@ module _ {Q : Type 0} (lineOf : Q → List ℕ → Answer Q) (line-cut : (q : Q)
             line-long = same ∙ h .line-long;
             out-long = l ∙ h .out-long;
             part-fits = omega arith;
-            out-fits = omega (arith, a .text .place, length-line, longer, h .out-fits, h .in-chunk, found);
+            out-fits = omega (arith, a .text .place, ended-length, h .out-fits, h .in-chunk, found);
             led =
                 h .led
                 ∙ ap (λ (f : Fed Q). after lineOf (take sent out) f)
-                (feed-line lineOf q (take len line) (drop i chunk) ends-rest
+                (feed-line lineOf q (take len line) (drop i chunk) (omega (arith, length-drop i chunk))
                 ∙ ap (λ (x : Answer Q). after lineOf (x .said) (feed lineOf (x .next) [] (drop (suc k) (drop i chunk)))) e
                 ∙ ap (λ (x : List ℕ). after lineOf (d .said) (feed lineOf (d .next) [] x)) r)
                 ∙ again (take sent out) (d .said) (feed lineOf (d .next) [] (drop (j + 1) chunk))
@@ -174,6 +176,26 @@ module _ {Q : Type 0} (lineOf : Q → List ℕ → Answer Q) (line-cut : (q : Q)
         where
           again : (x y : List ℕ) (f : Fed Q) → after lineOf x (after lineOf y f) ≡ after lineOf (x ++ y) f
           again x y f = ap (λ (z : List ℕ). record { next = f .next; part = f .part; said = z }) (sym (append-assoc x y (f .said)))
+
+      -- the same where the line is answered from what is kept of it
+      module _ (line′ : List ℕ) (len′ : ℕ) (kept : Kept line len (take (j - i) (drop i chunk)) line′ len′) (same : length line′ ≡ length line) where
+        longer : len′ ≤ len + (j - i)
+        longer =
+            omega (
+              arith,
+              kept-length line len (take (j - i) (drop i chunk)) line′ len′ kept (h .line-long) (same ∙ h .line-long) (h .part-fits),
+              part-length,
+            )
+
+        pub answer-fits : sent + 22 * (length (take len′ line′) + 1) ≤ length out
+        answer-fits =
+            omega (arith, length-take-le len′ line′ (omega (arith, kept .fits, same, h .line-long)), longer, line-fits, part-length)
+
+        pub turn : (q′ : Q) (out′ : List ℕ) (sent′ : ℕ) → Answered (lineOf q (take len′ line′)) out sent q′ out′ sent′ → length out′ ≡ length out
+            → Held chunk out₀ q₀ p₀ line′ out′ q′ 0 sent′ (j + 1)
+        turn q′ out′ sent′ a l =
+            turn-line line′ same q′ out′ sent′
+            (subst (λ (x : Answer Q). Answered x out sent q′ out′ sent′) (ap (λ (x : List ℕ). lineOf q x) (kept .bytes) ∙ line-cut q ended) a) l
 
     -- no newline is left: the rest is kept
     pub end : length chunk ≤ j → (line′ : List ℕ) (len′ : ℕ) → Kept line len (take (length chunk - i) (drop i chunk)) line′ len′
