@@ -102,6 +102,20 @@ kept-length line len more line′ len′ k l l′ h =
     let b : length (take len line) ≡ len = length-take-le len line (omega arith) in
     omega (arith, ap length (k .bytes), length-take 256 (take len line ++ more), length-append (take len line) more)
 
+-- room for the answer to a line is room for the answer to what is kept of it
+pub kept-room : (line : List ℕ) (len : ℕ) (more line′ : List ℕ) (len′ : ℕ) → Kept line len more line′ len′ → length line ≡ 256 → length line′ ≡ 256 → len ≤ 256
+    → (at n : ℕ) → at + 22 * (len + length more + 1) ≤ n → at + 22 * (length (take len′ line′) + 1) ≤ n
+kept-room line len more line′ len′ k l l′ h at n r =
+    omega (arith, length-take-le len′ line′ (omega (arith, k .fits)), kept-length line len more line′ len′ k l l′ h)
+
+-- and both answers are the same
+pub kept-answered : {Q : Type 0} (lineOf : Q → List ℕ → Answer Q) → ((q : Q) (p : List ℕ) → lineOf q (cut p) ≡ lineOf q p)
+    → (line : List ℕ) (len : ℕ) (more line′ : List ℕ) (len′ : ℕ) → Kept line len more line′ len′
+    → (q : Q) (out : List ℕ) (at : ℕ) (q′ : Q) (out′ : List ℕ) (at′ : ℕ) → Answered (lineOf q (take len′ line′)) out at q′ out′ at′
+    → Answered (lineOf q (take len line ++ more)) out at q′ out′ at′
+kept-answered {Q} lineOf line-cut line len more line′ len′ k q out at q′ out′ at′ a =
+    subst (λ (x : Answer Q). Answered x out at q′ out′ at′) (ap (λ (x : List ℕ). lineOf q x) (k .bytes) ∙ line-cut q (take len line ++ more)) a
+
 module _ {Q : Type 0} (lineOf : Q → List ℕ → Answer Q) (line-cut : (q : Q) (p : List ℕ) → lineOf q (cut p) ≡ lineOf q p)
     (room : (q : Q) (l : List ℕ) → length (lineOf q l .said) ≤ 22 * (length l + 1)) where
   -- what holds at each turn, at the place i of the chunk: what is left to do gives what the whole chunk gives, and 22 bytes of room are used at most
@@ -179,23 +193,13 @@ module _ {Q : Type 0} (lineOf : Q → List ℕ → Answer Q) (line-cut : (q : Q)
 
       -- the same where the line is answered from what is kept of it
       module _ (line′ : List ℕ) (len′ : ℕ) (kept : Kept line len (take (j - i) (drop i chunk)) line′ len′) (same : length line′ ≡ length line) where
-        longer : len′ ≤ len + (j - i)
-        longer =
-            omega (
-              arith,
-              kept-length line len (take (j - i) (drop i chunk)) line′ len′ kept (h .line-long) (same ∙ h .line-long) (h .part-fits),
-              part-length,
-            )
-
         pub answer-fits : sent + 22 * (length (take len′ line′) + 1) ≤ length out
-        answer-fits =
-            omega (arith, length-take-le len′ line′ (omega (arith, kept .fits, same, h .line-long)), longer, line-fits, part-length)
+        answer-fits = kept-room line len _ line′ len′ kept (h .line-long) (same ∙ h .line-long) (h .part-fits) sent (length out) line-fits
 
         pub turn : (q′ : Q) (out′ : List ℕ) (sent′ : ℕ) → Answered (lineOf q (take len′ line′)) out sent q′ out′ sent′ → length out′ ≡ length out
             → Held chunk out₀ q₀ p₀ line′ out′ q′ 0 sent′ (j + 1)
         turn q′ out′ sent′ a l =
-            turn-line line′ same q′ out′ sent′
-            (subst (λ (x : Answer Q). Answered x out sent q′ out′ sent′) (ap (λ (x : List ℕ). lineOf q x) (kept .bytes) ∙ line-cut q ended) a) l
+            turn-line line′ same q′ out′ sent′ (kept-answered lineOf line-cut line len _ line′ len′ kept q out sent q′ out′ sent′ a) l
 
     -- no newline is left: the rest is kept
     pub end : length chunk ≤ j → (line′ : List ℕ) (len′ : ℕ) → Kept line len (take (length chunk - i) (drop i chunk)) line′ len′
