@@ -4,6 +4,7 @@ pub mod Verdict
 pub mod Signals
 pub mod Commands
 pub mod Step
+pub mod Lent
 pub mod Reading
 pub mod Told
 pub mod Stages

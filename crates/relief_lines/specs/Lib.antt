@@ -1,0 +1,2 @@
+-- Relief lines.
+pub mod Relief
