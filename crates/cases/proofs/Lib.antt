@@ -1,0 +1,3 @@
+pub mod EconomizerCases
+pub mod ReliefCases
+pub mod Table

@@ -1,0 +1,6 @@
+-- The proved cases of document 01: the rows that they speak of, and the table.
+pub mod Numbers
+pub mod Freeze
+pub mod Relief
+pub mod Economizer
+pub mod Cases
