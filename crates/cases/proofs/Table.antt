@@ -23,6 +23,7 @@ use Rattle.freeze_protection.specs.Commands.{freezeCommands}
 use Rattle.freeze_protection.specs.Step.{freezeFresh, freezeNext, stepBy, freezeRow}
 use Rattle.cases.specs.Freeze.{stages, signalled}
 use Rattle.cases.specs.Cases.{Cases}
+use Rattle.cases.proofs.RowLinesExample.{example-is-written}
 use Rattle.cases.proofs.ReliefCases.{first-mean-told, alarm-guard, waits}
 use Rattle.cases.proofs.EconomizerCases.{rises-and-stays, delays-first, delays-later, delays-run}
 
@@ -40,4 +41,5 @@ all-cases = record {
   r4 = waits;
   e1 = rises-and-stays;
   e2 = (delays-first, delays-later, delays-run);
+  rowLines = example-is-written;
 }

@@ -17,9 +17,11 @@ use Rattle.economizer_controller.specs.declared.types.EconomizerState.{Economiz
 use Rattle.economizer_controller.specs.Verdict.{economizerVerdict}
 use Rattle.economizer_controller.specs.Step.{economizerFresh}
 use Rattle.economizer_controller.specs.Told.{economizerReturned}
+use Rattle.lines.specs.Lines.{Answer}
 use Rattle.cases.specs.Numbers.{zero}
 use Rattle.cases.specs.Freeze.{FreezeOthers, at, resetAt, stages, signalled, isCold, callsStage3, isHeld, hourPassed}
 use Rattle.cases.specs.Relief.{told, AlarmGuard, Waits}
+use Rattle.cases.specs.RowLines.{inputBytes, outputBytes, rowsOutput}
 use Rattle.cases.specs.Economizer.{enableAt, RisesAndStays, Delays, EconomizerOthers, enabledAt, disabledAt, enables, reading}
 
 -- the values of accepted rows
@@ -70,3 +72,5 @@ pub record Cases : Type 0 where
       → Delays (enableAt (economizerReturned state row) next) false)
       × ((o : ℕ → EconomizerOthers) → enables o (enabledAt 0 ∷ disabledAt 60 ∷ disabledAt 74 ∷ disabledAt 75 ∷ disabledAt 239 ∷ disabledAt 240 ∷ [])
       ≡ taken (reading true false false ∷ reading false false false ∷ reading false false false ∷ reading false true false ∷ reading false true false ∷ reading false true true ∷ []))
+  -- Row lines: the program `rows` reads this from standard input .. and prints ..
+  pub rowLines : (reliefAnswered : ReliefState → List ℕ → Answer ReliefState) → rowsOutput reliefAnswered inputBytes ≡ outputBytes

@@ -3,4 +3,5 @@ pub mod Numbers
 pub mod Freeze
 pub mod Relief
 pub mod Economizer
+pub mod RowLines
 pub mod Cases
