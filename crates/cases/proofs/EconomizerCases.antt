@@ -1,8 +1,6 @@
 -- Cases E1 and E2: what the outdoor air condition and the delays do at a row, from that row's and the row before's. Assumes nothing.
-use Prim.Native.Nat.{ℕ}
 use mathlib.Core.Path.{_≡_, refl}
 use mathlib.Core.Bool.{Bool, true, false, not, _&&_, _||_, cond}
-use mathlib.Core.List.{[], _∷_}
 use lib.Ieee.{Float, lt, le, add, sub, sum, neg, isNan, round, ofBits}
 use Rattle.reals.specs.Constants.{plusZero, minusOne}
 use Rattle.reals.specs.declared.hysteresis.HysteresisState.{HysteresisState}
@@ -27,8 +25,7 @@ use Rattle.economizer_controller.specs.Enable.{enableNew, enableOutput, enableU
 use Rattle.economizer_controller.specs.Step.{economizerFresh, economizerSignals, economizerNext, stepBy, economizerRow}
 use Rattle.economizer_controller.specs.Told.{economizerWorked, economizerReturned}
 use Rattle.economizer_controller.proofs.Demand3.{economizer-returned}
-use Rattle.cases.specs.Economizer.{enableAt, difference, RisesAndStays, Delays, EconomizerOthers, enabledAt, disabledAt, enables, reading}
-use Rattle.cases.specs.Cases.{taken}
+use Rattle.cases.specs.Economizer.{enableAt, difference, RisesAndStays, Delays, StartsAndWaits, enables}
 
 -- the hysteresis, by its value on the row before
 by-before : (s : HysteresisState) (u : Float) → hysteresisOutput s u ≡ cond (s .previous) (le minusOne u) (lt plusZero u)
@@ -57,16 +54,14 @@ unfolding trueDelayOutput trueDelayUpdate trueDelayNextTimer seenNever switch
 starts-false s t next delay true e = e
 starts-false s t next delay false e = refl
 
-pub delays-first : (row : EconomizerRow) → Delays (enableAt economizerFresh row) (not (enableAt economizerFresh row .enabled))
+delays-first : (row : EconomizerRow) → Delays (enableAt economizerFresh row) (not (enableAt economizerFresh row .enabled))
 unfolding economizerFresh economizerSignals enableNew enableOutput
 delays-first row = record { outdoor = on-row-0 _ _ _; return = on-row-0 _ _ _ }
 
-pub delays-later : (state : EconomizerState) (row next : EconomizerRow) → economizerVerdict state row ≡ Accepted → enableAt state row .enabled ≡ true → Delays (enableAt (economizerReturned state row) next) false
+delays-later : (state : EconomizerState) (row next : EconomizerRow) → economizerVerdict state row ≡ Accepted → enableAt state row .enabled ≡ true → Delays (enableAt (economizerReturned state row) next) false
 unfolding economizerSignals economizerNext enableOutput enableUpdate
 delays-later state row next e on = rw (economizer-returned state row, e, on) (record { outdoor = starts-false _ _ _ _ _ (unfold le ofBits in refl); return = starts-false _ _ _ _ _ (unfold le ofBits in refl) })
 
--- the delays in a run
-pub delays-run : (o : ℕ → EconomizerOthers) → enables o (enabledAt 0 ∷ disabledAt 60 ∷ disabledAt 74 ∷ disabledAt 75 ∷ disabledAt 239 ∷ disabledAt 240 ∷ [])
-    ≡ taken (reading true false false ∷ reading false false false ∷ reading false false false ∷ reading false true false ∷ reading false true false ∷ reading false true true ∷ [])
+pub starts-and-waits : StartsAndWaits
 unfolding enables run economizerRow stepBy economizerWorked economizerVerdict judge numbersFinite isSignNegative seenAbove economizerFresh economizerSignals economizerNext enableNew enableOutput enableUpdate hysteresisNew hysteresisOutput hysteresisUpdate trueFalseHoldNew trueFalseHoldRequired trueFalseHoldOutputAndTimer trueFalseHoldOutput trueFalseHoldUpdate trueDelayNew trueDelayNextTimer trueDelayOutput trueDelayUpdate integersEqual logicalSwitch seenNever seenGap greater switch isNan lt le add sub sum neg round ofBits
-delays-run o = refl
+starts-and-waits = record { first = delays-first; later = delays-later; waits = λ o. refl }

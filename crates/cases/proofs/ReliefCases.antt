@@ -2,16 +2,15 @@
 use Prim.Native.Nat.{ℕ, zero, suc, _<_}
 use native.Mathlib.Omega.{arith}
 use mathlib.Core.Path.{_≡_, refl, sym, ap, _∙_}
-use mathlib.Core.Bool.{Bool, true, false, not, _&&_, cond}
+use mathlib.Core.Bool.{Bool, true, false, not, cond}
 use mathlib.Core.List.{List, [], _∷_, map, zipWith}
 use lib.Dec.{T, eqb, eqb→eq}
 use lib.Ieee.Fits.{and-l, and-r}
 use lib.IntN.{ℤ, pos, negsuc}
-use lib.ListN.{getD}
-use lib.Ieee.{Float, round, ofBits, le}
+use lib.Ieee.{Float, round, ofBits}
 use lib.Ieee.Scale.{finite}
 use Rattle.reals.specs.Constants.{plusZero}
-use Rattle.reals.specs.Four.{real, flag}
+use Rattle.reals.specs.Four.{real}
 use Rattle.reals.specs.Seen.{seenNever, seenAbove, seenElapsed}
 use Rattle.reals.specs.Sign.{isTime, isSignNegative}
 use Rattle.reals.proofs.Truth.{is-true}
@@ -21,15 +20,14 @@ use Rattle.logical.proofs.Differ.{delays-differ-on-row-0}
 use Rattle.refusals.specs.declared.Verdict.{Verdict}
 use Rattle.refusals.specs.declared.Verdict.the-variants.{Accepted, Refused}
 use Rattle.refusals.specs.Refusals.{judge}
-use Rattle.past.specs.Whole.{Told, Taken}
+use Rattle.past.specs.Whole.{Taken}
 use Rattle.moving_average.specs.Window.{dropOld}
-use Rattle.moving_average.specs.State.{held, movingAverageNew, movingAverageOutput, movingAverageIsFull}
+use Rattle.moving_average.specs.State.{held, movingAverageNew, movingAverageIsFull}
 use Rattle.moving_average.proofs.FirstRows.{first-mean}
-use Rattle.relief_fans.specs.Commands.{level, isLevel2, alarmOffGuard, damperAt, damper}
+use Rattle.relief_fans.specs.Commands.{level, isLevel2, alarmOffGuard, damper}
 use Rattle.relief_fans.specs.Blocks.{delayAt}
 use Rattle.relief_fan_group.specs.declared.types.ReliefRow.{ReliefRow}
 use Rattle.relief_fan_group.specs.declared.types.ReliefState.{ReliefState}
-use Rattle.relief_fan_group.specs.declared.types.ReliefSignals.{ReliefSignals}
 use Rattle.relief_fan_group.specs.declared.types.ReliefCommands.{ReliefCommands}
 use Rattle.relief_fan_group.specs.declared.types.ReliefAnswer.{ReliefAnswer}
 use Rattle.relief_fan_group.specs.declared.types.ReliefAnswer.the-variants as Answer
@@ -37,14 +35,14 @@ use Rattle.relief_fan_group.specs.Constants.{proofTime}
 use Rattle.relief_fan_group.specs.Verdict.{numbersFinite, orWindowFull, reliefVerdict}
 use Rattle.relief_fan_group.specs.Signals.{pressureControl, reliefSignals}
 use Rattle.relief_fan_group.specs.Commands.{reliefCommands}
-use Rattle.relief_fan_group.specs.Step.{reliefBlocks, reliefFresh, reliefNext, signalsAt, stepBy, reliefRow}
+use Rattle.relief_fan_group.specs.Step.{reliefBlocks, reliefFresh, signalsAt, stepBy, reliefRow}
 use Rattle.relief_fan_group.specs.Alarms.{speedsOf, dampersOf, withAlarm}
 use Rattle.relief_fan_group.proofs.Alarms.{alarm-2-shuts, speeds-whatever-the-alarm, signals-whatever-the-alarm, next-whatever-the-alarm}
-use Rattle.cases.specs.Numbers as Numbers
+use Rattle.cases.specs.Words as Words
 use Rattle.cases.specs.Relief.{told, without3, AlarmGuard, Waits}
 
 -- ---- R1
-zero-is : plusZero ≡ Numbers.zero
+zero-is : plusZero ≡ Words.zero
 unfolding round ofBits
 zero-is = refl
 
@@ -68,7 +66,7 @@ module _ (row : ReliefRow) (a : T (isTime (row .time))) (b : T (finite (row .pre
       )
       refl
 
-  pub first-mean-told : told (λ c. c .«averaged_pressure») (reliefRow reliefFresh row .answer) ≡ Taken Numbers.zero
+  pub first-mean-told : told (λ c. c .«averaged_pressure») (reliefRow reliefFresh row .answer) ≡ Taken Words.zero
   unfolding reliefRow reliefFresh stepBy reliefCommands signalsAt reliefSignals pressureControl
   first-mean-told = rw first-taken (ap Taken (first-mean (row .time) (row .pressure) (and-l (finite (row .time)) (not (isSignNegative (row .time))) a) b ∙ zero-is))
 

@@ -21,7 +21,7 @@ use Rattle.reals.specs.Constants.{plusZero, one}
 use Rattle.economizer_controller.specs.declared.types.EconomizerRow.{EconomizerRow}
 use Rattle.economizer_controller.specs.declared.types.EconomizerCommands.{EconomizerCommands}
 use Rattle.economizer_controller.specs.declared.types.EconomizerAnswer.the-variants as answer
-use Rattle.row_reader.specs.declared.econ.EconLine.the-variants.{Row, Malformed}
+use Rattle.row_reader.specs.declared.econ.EconLine.the-variants.{Row}
 use Rattle.economizer_controller.specs.Integers.{integersEqual}
 use Rattle.economizer_controller.specs.Verdict.{numbersFinite, economizerVerdict}
 use Rattle.economizer_controller.specs.DamperLimits.{minimumOutdoorAirLoopEnabled, damperLimits}

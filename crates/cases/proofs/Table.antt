@@ -1,9 +1,6 @@
--- The one fact that covers every case of the table. Assumes nothing.
-use Prim.Native.Nat.{ℕ}
-use mathlib.Core.Path.{_≡_, refl}
-use mathlib.Core.Bool.{Bool, true, false}
-use mathlib.Core.List.{List, [], _∷_, map}
-use lib.Ieee.{lt, le, add, sub, sum, neg, round, ofBits, isNan, mul, div}
+-- The one fact that covers every case of the table; F1 to F6 are computed here. Assumes nothing.
+use mathlib.Core.Path.{refl}
+use lib.Ieee.{lt, le, add, sub, sum, neg, round, ofBits, isNan}
 use Rattle.reals.specs.Order.{greater}
 use Rattle.reals.specs.Seen.{seenNever, seenAbove, seenElapsed, seenGap}
 use Rattle.reals.specs.Sign.{isSignNegative}
@@ -16,7 +13,7 @@ use Rattle.logical.specs.Timer.{entryTime, elapsedTime}
 use Rattle.logical.specs.HeldTimer.{heldTimerNew, heldTimerOutput, heldTimerUpdate}
 use Rattle.logical.specs.TrueFalseHold.{trueFalseHoldNew, trueFalseHoldRequired, trueFalseHoldOutputAndTimer, trueFalseHoldOutput, trueFalseHoldUpdate}
 use Rattle.refusals.specs.Refusals.{judge}
-use Rattle.past.specs.Whole.{Told, Taken, run}
+use Rattle.past.specs.Whole.{run}
 use Rattle.freeze_protection.specs.Verdict.{numbersFinite, freezeVerdict}
 use Rattle.freeze_protection.specs.Signals.{freezeCalls, freezeSignals, stageNumber}
 use Rattle.freeze_protection.specs.Commands.{freezeCommands}
@@ -25,7 +22,7 @@ use Rattle.cases.specs.Freeze.{stages, signalled}
 use Rattle.cases.specs.Cases.{Cases}
 use Rattle.cases.proofs.RowLinesExample.{example-is-written}
 use Rattle.cases.proofs.ReliefCases.{first-mean-told, alarm-guard, waits}
-use Rattle.cases.proofs.EconomizerCases.{rises-and-stays, delays-first, delays-later, delays-run}
+use Rattle.cases.proofs.EconomizerCases.{rises-and-stays, starts-and-waits}
 
 pub all-cases : Cases
 unfolding stages signalled run freezeRow stepBy freezeVerdict judge numbersFinite isSignNegative seenAbove freezeFresh freezeNext freezeCommands freezeSignals freezeCalls stageNumber crosses thresholdAbove thresholdBelow thresholdOutput thresholdUpdate edgeNew edgeOutput edgeUpdate latchNew latchOutput latchUpdate logicalSwitch entryTime elapsedTime heldTimerNew heldTimerOutput heldTimerUpdate trueFalseHoldNew trueFalseHoldRequired trueFalseHoldOutputAndTimer trueFalseHoldOutput trueFalseHoldUpdate seenNever seenElapsed seenGap greater switch isNan lt le add sub sum neg round ofBits
@@ -40,6 +37,6 @@ all-cases = record {
   r3 = alarm-guard;
   r4 = waits;
   e1 = rises-and-stays;
-  e2 = (delays-first, delays-later, delays-run);
+  e2 = starts-and-waits;
   rowLines = example-is-written;
 }

@@ -1,33 +1,24 @@
 -- The cases of document 01 that are marked P: one table, an entry a case, with the words of document 01 above it. proofs/Table.antt has the one fact that covers it.
 use Prim.Native.Nat.{ℕ, _<_}
 use mathlib.Core.Path.{_≡_}
-use mathlib.Core.Bool.{true, false, not}
-use mathlib.Core.List.{List, [], _∷_, map}
+use mathlib.Core.Bool.{true, false}
+use mathlib.Core.List.{List, [], _∷_}
 use lib.Dec.{T}
 use lib.Ieee.Scale.{finite}
 use Rattle.reals.specs.Sign.{isTime}
-use Rattle.refusals.specs.declared.Verdict.the-variants.{Accepted}
-use Rattle.past.specs.Whole.{Told, Taken}
+use Rattle.past.specs.Whole.{Taken}
 use Rattle.relief_fans.specs.Blocks.{delayAt}
 use Rattle.relief_fan_group.specs.declared.types.ReliefRow.{ReliefRow}
 use Rattle.relief_fan_group.specs.declared.types.ReliefState.{ReliefState}
 use Rattle.relief_fan_group.specs.Step.{reliefFresh, reliefRow}
-use Rattle.economizer_controller.specs.declared.types.EconomizerRow.{EconomizerRow}
-use Rattle.economizer_controller.specs.declared.types.EconomizerState.{EconomizerState}
-use Rattle.economizer_controller.specs.Verdict.{economizerVerdict}
-use Rattle.economizer_controller.specs.Step.{economizerFresh}
-use Rattle.economizer_controller.specs.Told.{economizerReturned}
 use Rattle.lines.specs.Lines.{Answer}
-use Rattle.cases.specs.Numbers.{zero}
+use Rattle.cases.specs.Words.{zero, taken}
 use Rattle.cases.specs.Freeze.{FreezeOthers, at, resetAt, stages, signalled, isCold, callsStage3, isHeld, hourPassed}
 use Rattle.cases.specs.Relief.{told, AlarmGuard, Waits}
+use Rattle.cases.specs.Economizer.{RisesAndStays, StartsAndWaits}
 use Rattle.cases.specs.RowLines.{inputBytes, outputBytes, rowsOutput}
-use Rattle.cases.specs.Economizer.{enableAt, RisesAndStays, Delays, EconomizerOthers, enabledAt, disabledAt, enables, reading}
 
--- the values of accepted rows
-abbrev pub taken : {A : Type 0} → List A → List (Told A)
-taken = map Taken
-
+-- `o` has, for each time, the fields that document 01 leaves open; they are any finite numbers
 pub record Cases : Type 0 where
   -- F1 0: 277, 299: 277, stage 0; with 300 in place of 299, stage 1.
   pub f1 : (o : ℕ → FreezeOthers)
@@ -67,10 +58,7 @@ pub record Cases : Type 0 where
   -- E1 the difference to 294.15 must be above 0 to rise and stays while at least −1.
   pub e1 : RisesAndStays
   -- E2 its `TrueDelayState` is true on row 0 if its input is. Later it starts false: outdoor 15 s (14 no, 15 yes), return 180 s.
-  pub e2 : ((row : EconomizerRow) → Delays (enableAt economizerFresh row) (not (enableAt economizerFresh row .enabled)))
-      × ((state : EconomizerState) (row next : EconomizerRow) → economizerVerdict state row ≡ Accepted → enableAt state row .enabled ≡ true
-      → Delays (enableAt (economizerReturned state row) next) false)
-      × ((o : ℕ → EconomizerOthers) → enables o (enabledAt 0 ∷ disabledAt 60 ∷ disabledAt 74 ∷ disabledAt 75 ∷ disabledAt 239 ∷ disabledAt 240 ∷ [])
-      ≡ taken (reading true false false ∷ reading false false false ∷ reading false false false ∷ reading false true false ∷ reading false true false ∷ reading false true true ∷ []))
-  -- Row lines: the program `rows` reads this from standard input .. and prints ..
+  pub e2 : StartsAndWaits
+  -- Row lines: the program `rows` reads this from standard input (time, flow, setpoint, signal, outdoor 256 K, fan, mode, stage) .. and prints (status, outdoor minimum,
+  -- loop on, outdoor command, return command = 1.0) ..
   pub rowLines : (reliefAnswered : ReliefState → List ℕ → Answer ReliefState) → rowsOutput reliefAnswered inputBytes ≡ outputBytes

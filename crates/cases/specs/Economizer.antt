@@ -2,7 +2,7 @@
 use Prim.Native.Nat.{ℕ}
 use mathlib.Core.Path.{_≡_}
 use mathlib.Core.Bool.{Bool, true, false, not, cond}
-use mathlib.Core.List.{List, map}
+use mathlib.Core.List.{List, [], _∷_, map}
 use lib.Ieee.{Float, binary64, sub, lt, le}
 use lib.IntN.{ℤ, pos}
 use Rattle.refusals.specs.declared.Verdict.the-variants.{Accepted}
@@ -14,7 +14,7 @@ use Rattle.economizer_controller.specs.Verdict.{economizerVerdict}
 use Rattle.economizer_controller.specs.Step.{economizerFresh, economizerSignals}
 use Rattle.economizer_controller.specs.Reading.{EconomizerReading}
 use Rattle.economizer_controller.specs.Told.{economizerTold, economizerReturned}
-use Rattle.cases.specs.Numbers.{seconds, kelvin, zero, minusOne, Number, number}
+use Rattle.cases.specs.Words.{seconds, kelvin, zero, minusOne, Number, number, taken}
 
 -- the blocks of the enable pass at a row that is handed to a state
 abbrev pub enableAt : EconomizerState → EconomizerRow → EnableSignals
@@ -35,7 +35,8 @@ pub record RisesAndStays : Type 0 where
   pub later : (state : EconomizerState) (row next : EconomizerRow) → economizerVerdict state row ≡ Accepted
       → conditionAt (economizerReturned state row) next ≡ cond (conditionAt state row) (le minusOne (difference next)) (lt zero (difference next))
 
--- ---- E2: the two delays of 'not enabled'
+-- ---- E2: the two delays, of 15 s and of 180 s, of 'not enabled'
+-- both delays are so
 pub record Delays (y : EnableSignals) (done : Bool) : Type 0 where
   pub outdoor : y .«outdoor_delay_done» ≡ done
   pub return : y .«return_delay_done» ≡ done
@@ -80,3 +81,14 @@ module _ (others : ℕ → EconomizerOthers) where
 
 abbrev pub reading : Bool → Bool → Bool → EconomizerReading
 reading enabled outdoor return = record { enabled = enabled; outdoorDelayed = outdoor; returnDelayed = return }
+
+pub record StartsAndWaits : Type 0 where
+  -- true on row 0 if its input is
+  pub first : (row : EconomizerRow) → Delays (enableAt economizerFresh row) (not (enableAt economizerFresh row .enabled))
+  -- later it starts false: on a row after an accepted one that was enabled
+  pub later : (state : EconomizerState) (row next : EconomizerRow) → economizerVerdict state row ≡ Accepted → enableAt state row .enabled ≡ true
+      → Delays (enableAt (economizerReturned state row) next) false
+  -- not enabled from 60 on: outdoor 15 s (14 no, 15 yes), return 180 s (179 no, 180 yes)
+  pub waits : (o : ℕ → EconomizerOthers)
+      → enables o (enabledAt 0 ∷ disabledAt 60 ∷ disabledAt 74 ∷ disabledAt 75 ∷ disabledAt 239 ∷ disabledAt 240 ∷ [])
+      ≡ taken (reading true false false ∷ reading false false false ∷ reading false false false ∷ reading false true false ∷ reading false true false ∷ reading false true true ∷ [])

@@ -8,7 +8,7 @@ use Rattle.freeze_protection.specs.declared.types.FreezeSignals.{FreezeSignals}
 use Rattle.freeze_protection.specs.Signals.{freezeSignals}
 use Rattle.freeze_protection.specs.Step.{freezeFresh}
 use Rattle.freeze_protection.specs.Told.{freezeTold, freezeReturned}
-use Rattle.cases.specs.Numbers.{seconds, kelvin, Number, number}
+use Rattle.cases.specs.Words.{seconds, kelvin, Number, number}
 
 -- what a case says of a row: its time in seconds, its supply air in hundredths of a kelvin, its reset
 pub record Written : Type 0 where

@@ -1,5 +1,5 @@
 -- The proved cases of document 01: the rows that they speak of, and the table.
-pub mod Numbers
+pub mod Words
 pub mod Freeze
 pub mod Relief
 pub mod Economizer

@@ -18,7 +18,7 @@ use Rattle.relief_fan_group.specs.declared.types.ReliefAnswer.{ReliefAnswer}
 use Rattle.relief_fan_group.specs.declared.types.ReliefAnswer.the-variants as Answer
 use Rattle.relief_fan_group.specs.Step.{reliefRow}
 use Rattle.relief_fan_group.specs.Alarms.{speedsOf, dampersOf, withAlarm}
-use Rattle.cases.specs.Numbers.{seconds, zero}
+use Rattle.cases.specs.Words.{seconds, zero}
 
 -- of an answer, the refusal or a part of its commands
 abbrev pub told : {A : Type 0} → (ReliefCommands → A) → ReliefAnswer → Told A

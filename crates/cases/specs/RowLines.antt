@@ -1,4 +1,4 @@
--- The example of document 01, 'Row lines', byte for byte, and the reader that it is given to. The reader's definitions are named here and in proofs/RowLinesExample.antt.
+-- The example of document 01, 'Row lines', byte for byte, and the reader that it is given to.
 use Prim.Native.Nat.{ℕ}
 use Prim.Native.Char.{code}
 use Prim.Native.String.{String, [] as none, _∷_ as _before_}

@@ -1,8 +1,10 @@
--- The numbers of the cases: decimals as document 01 writes them, and those that it leaves open.
+-- The words that the cases share: decimals as document 01 writes them, numbers that it leaves open, and values of accepted rows.
 use Prim.Native.Nat.{ℕ}
 use mathlib.Core.Bool.{Bool, true, false}
+use mathlib.Core.List.{List, map}
 use lib.IntN.{ℤ}
 use lib.Ieee.{Float, fin, binary64, round}
+use Rattle.past.specs.Whole.{Told, Taken}
 
 -- n seconds
 abbrev pub seconds : ℕ → Float
@@ -18,7 +20,7 @@ zero = round binary64 false 0 1
 abbrev pub minusOne : Float
 minusOne = round binary64 true 1 1
 
--- any finite number
+-- any finite number, by its sign, mantissa and exponent
 pub record Number : Type 0 where
   pub negative : Bool
   pub mantissa : ℕ
@@ -26,3 +28,7 @@ pub record Number : Type 0 where
 
 abbrev pub number : Number → Float
 number n = fin (n .negative) (n .mantissa) (n .exponent)
+
+-- what accepted rows tell
+abbrev pub taken : {A : Type 0} → List A → List (Told A)
+taken = map Taken
