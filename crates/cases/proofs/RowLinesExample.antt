@@ -1,0 +1,93 @@
+-- The example of 'Row lines', computed. Assumes nothing.
+use Prim.Native.Nat.{ℕ}
+use mathlib.Core.Path.{_≡_, refl}
+use mathlib.Core.Bool.{true, false}
+use mathlib.Core.List.{List, [], _∷_}
+use lib.IntN.{pos}
+use lib.Ieee.{binary64, lt, le, add, sub, sum, neg, mul, div, isNan, round, ofBits, toBits}
+use Rattle.reals.specs.Order.{greater, lesser}
+use Rattle.reals.specs.Limits.{clamp}
+use Rattle.reals.specs.Line.{buildingsLine}
+use Rattle.reals.specs.Seen.{seenNever, seenAbove, seenGap}
+use Rattle.reals.specs.Sign.{isSignNegative}
+use Rattle.reals.specs.Switch.{switch}
+use Rattle.reals.specs.Hysteresis.{hysteresisNew, hysteresisOutput}
+use Rattle.reals.specs.Pid.{pidUnlimited, pidWithResetNew, pidWithResetOutput}
+use Rattle.logical.specs.Switch.{logicalSwitch}
+use Rattle.logical.specs.TrueFalseHold.{trueFalseHoldNew, trueFalseHoldRequired, trueFalseHoldOutputAndTimer, trueFalseHoldOutput}
+use Rattle.logical.specs.TrueDelay.{trueDelayNew, trueDelayNextTimer, trueDelayOutput}
+use Rattle.refusals.specs.Refusals.{judge}
+use Rattle.reals.specs.Constants.{plusZero, one}
+use Rattle.economizer_controller.specs.declared.types.EconomizerRow.{EconomizerRow}
+use Rattle.economizer_controller.specs.declared.types.EconomizerCommands.{EconomizerCommands}
+use Rattle.economizer_controller.specs.declared.types.EconomizerAnswer.the-variants as answer
+use Rattle.econ_lines.specs.declared.econ.EconLine.the-variants.{Row}
+use Rattle.economizer_controller.specs.Integers.{integersEqual}
+use Rattle.economizer_controller.specs.Verdict.{numbersFinite, economizerVerdict}
+use Rattle.economizer_controller.specs.DamperLimits.{minimumOutdoorAirLoopEnabled, damperLimits}
+use Rattle.economizer_controller.specs.Enable.{enableNew, enableOutput, enableLimits}
+use Rattle.economizer_controller.specs.Relief.{reliefModulation}
+use Rattle.economizer_controller.specs.Step.{economizerFresh, economizerSignals, economizerCommands, stepBy, economizerRow}
+use Rattle.relief_fan_group.specs.declared.types.ReliefState.{ReliefState}
+use Rattle.row_lines.specs.Scan.{digit, decimal}
+use Rattle.row_lines.specs.Column.{column}
+use Rattle.row_lines.specs.Field.{readUnsigned, readSigned, readYesNo, readReal}
+use Rattle.row_lines.specs.Line.{columnOf}
+use Rattle.lines.specs.Lines.{Answer, linesAfter, restAfter, answers, feed}
+use Rattle.lines.specs.Lines as Lines
+use Rattle.row_reader.specs.declared.kind.Kind.the-variants.{Econ}
+use Rattle.row_reader.specs.Kind.{kindOf}
+use Rattle.row_reader.specs.Reader.{readerLine, readerOutput}
+use Rattle.econ_lines.specs.Econ.{econLine, econCommandsLine, econAnswerLine, econAnswer, econAnswered}
+use Rattle.cases.specs.RowLines.{bytesOf, firstText, rowText, answerText, inputBytes, outputBytes, rowsOutput}
+
+-- the input's lines, and nothing after them
+lines-are : linesAfter [] inputBytes ≡ firstText ∷ rowText ∷ []
+unfolding inputBytes firstText rowText bytesOf linesAfter
+lines-are = refl
+
+rest-is : restAfter [] inputBytes ≡ []
+unfolding inputBytes firstText rowText bytesOf restAfter
+rest-is = refl
+
+-- the first line names the kind
+kind-is : kindOf firstText ≡ Econ
+unfolding kindOf firstText bytesOf
+kind-is = refl
+
+-- the row that the line is read as, and its commands
+row : EconomizerRow
+row = record {
+  time = plusZero;
+  «outdoor_airflow_normalized» = plusZero;
+  «minimum_outdoor_airflow_setpoint_normalized» = plusZero;
+  «supply_temperature_signal» = plusZero;
+  «outdoor_air_temperature» = round binary64 false 256 1;
+  «supply_fan_status» = true;
+  «operation_mode» = pos 1;
+  «freeze_protection_stage» = pos 0;
+}
+
+row-is : econLine rowText ≡ Row row
+unfolding row econLine rowText bytesOf digit decimal column columnOf readUnsigned readSigned readYesNo readReal round ofBits
+row-is = refl
+
+commands : EconomizerCommands
+commands = record { «outdoor_damper_min_limit» = plusZero; «minimum_outdoor_air_loop_enabled» = true; «outdoor_damper_command» = plusZero; «return_damper_command» = one }
+
+answer-is : economizerRow economizerFresh row .answer ≡ answer.Commands commands
+unfolding row commands economizerRow stepBy economizerVerdict judge numbersFinite isSignNegative seenAbove economizerFresh economizerSignals economizerCommands minimumOutdoorAirLoopEnabled damperLimits enableNew enableOutput enableLimits reliefModulation hysteresisNew hysteresisOutput pidUnlimited pidWithResetNew pidWithResetOutput trueFalseHoldNew trueFalseHoldRequired trueFalseHoldOutputAndTimer trueFalseHoldOutput trueDelayNew trueDelayNextTimer trueDelayOutput integersEqual logicalSwitch seenNever seenGap buildingsLine clamp greater lesser switch isNan lt le add sub sum neg mul div round ofBits
+answer-is = refl
+
+-- the line of the commands
+line-is : econCommandsLine commands ≡ outputBytes
+unfolding econCommandsLine commands outputBytes answerText bytesOf column toBits ofBits
+line-is = refl
+
+said-is : econAnswered economizerFresh rowText .said ≡ outputBytes
+unfolding econAnswered econAnswer econAnswerLine
+said-is = rw (row-is, answer-is) line-is
+
+pub example-is-written : (reliefAnswered : ReliefState → List ℕ → Answer ReliefState) → rowsOutput reliefAnswered inputBytes ≡ outputBytes
+unfolding rowsOutput readerOutput Lines.output feed answers readerLine
+example-is-written reliefAnswered = rw (lines-are, rest-is, kind-is, said-is) (unfold outputBytes answerText bytesOf in refl)

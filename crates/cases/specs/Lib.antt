@@ -1,0 +1,7 @@
+-- The proved cases of document 01: the rows that they speak of, and the table.
+pub mod Words
+pub mod Freeze
+pub mod Relief
+pub mod Economizer
+pub mod RowLines
+pub mod Cases

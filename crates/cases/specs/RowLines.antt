@@ -1,0 +1,41 @@
+-- The example of document 01, 'Row lines', byte for byte, and the reader that it is given to.
+use Prim.Native.Nat.{ℕ}
+use Prim.Native.Char.{code}
+use Prim.Native.String.{String, [] as none, _∷_ as _before_}
+use mathlib.Core.List.{List, [], _∷_, _++_}
+use Rattle.row_lines.specs.Line.{endOfLine}
+use Rattle.lines.specs.Lines.{Answer}
+use Rattle.freeze_protection.specs.Step.{freezeFresh}
+use Rattle.relief_fan_group.specs.declared.types.ReliefState.{ReliefState}
+use Rattle.relief_fan_group.specs.Step.{reliefFresh}
+use Rattle.economizer_controller.specs.Step.{economizerFresh}
+use Rattle.econ_lines.specs.Econ.{econAnswered}
+use Rattle.freeze_lines.specs.Freeze.{freezeAnswered}
+use Rattle.row_reader.specs.Reader.{readerOutput}
+
+-- the bytes of a text whose characters are all of ASCII
+unfoldable pub bytesOf : String → List ℕ
+bytesOf none = []
+bytesOf (c before s) = code c ∷ bytesOf s
+
+-- the first line, and the row: time, flow, setpoint, signal, outdoor 256 K, fan, mode, stage
+unfoldable pub firstText : List ℕ
+firstText = bytesOf "econ"
+
+unfoldable pub rowText : List ℕ
+rowText = bytesOf "                    0                    0                    0                    0  4643211215818981376                    1                    1                    0"
+
+-- its answer: status, outdoor minimum, loop on, outdoor command, return command = 1.0
+unfoldable pub answerText : List ℕ
+answerText = bytesOf "                    0                    0                    1                    0  4607182418800017408"
+
+-- byte 10 after each line
+unfoldable pub inputBytes : List ℕ
+inputBytes = firstText ++ endOfLine ++ rowText ++ endOfLine
+
+unfoldable pub outputBytes : List ℕ
+outputBytes = answerText ++ endOfLine
+
+-- what the reader writes for a whole input, whatever it answers to relief lines
+unfoldable pub rowsOutput : (ReliefState → List ℕ → Answer ReliefState) → List ℕ → List ℕ
+rowsOutput reliefAnswered bytes = readerOutput freezeFresh reliefFresh economizerFresh freezeAnswered reliefAnswered econAnswered bytes
