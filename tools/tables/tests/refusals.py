@@ -146,3 +146,19 @@ class Refusals(unittest.TestCase):
             self.assertEqual((status, said), (1, f'{out}: line 1: econ where freeze is asked for\n'))
         self.assertEqual(table('to-rows', 'frieze')[0], 2)
         self.assertEqual(table('frieze')[0], 2)
+
+    def test_a_link_and_a_pipe_stay(self):
+        with tempfile.TemporaryDirectory() as folder:
+            link, pipe = os.path.join(folder, 'link'), os.path.join(folder, 'pipe')
+            os.symlink('out', link)
+            os.mkfifo(pipe)
+            reader = os.open(pipe, os.O_RDONLY | os.O_NONBLOCK)
+            try:
+                for path in (link, pipe):
+                    self.assertEqual(table('from-rows', '-o', path, data=b'econ\n'), (0, b'', ''))
+                self.assertEqual(os.read(reader, 10000).decode(), HEAD + '\n')
+            finally:
+                os.close(reader)
+            self.assertTrue(os.path.islink(link))
+            with open(os.path.join(folder, 'out')) as file:
+                self.assertEqual(file.read(), HEAD + '\n')
