@@ -15,7 +15,7 @@ TITLE = 'Freeze protection: stage and supply air temperature'
 WIDTH, HEIGHT = 1000, 560
 LEFT, RIGHT = 70, 755                  # both panels
 STAGE_TOP, STAGE_BOTTOM = 84, 224      # stage 3 and stage 0 stand 14 inside
-MARKS = 242                            # resets and refused rows
+RESETS, REFUSED = 236, 251             # their marks
 AIR_TOP, AIR_BOTTOM = 262, 500
 COLDEST, WARMEST = 253.15, 313.15      # the temperature panel is never wider than this
 
@@ -140,12 +140,14 @@ def bands(taken, across):
 
 
 def hours(start, end, across):
+    """The axis, from the first accepted row on."""
     parts = []
-    for hour in steps(start / 3600.0, end / 3600.0, 12, HOURS):
-        x = min(max(across(hour * 3600.0), LEFT), RIGHT)
+    for hour in steps(0.0, (end - start) / 3600.0, 12, HOURS):
+        x = min(across(start + hour * 3600.0), RIGHT)
         parts.append(line(x, STAGE_TOP, x, AIR_BOTTOM, 'class="g"'))
         parts.append(label(x, AIR_BOTTOM + 18, f'{hour:.6g}', 'm'))
-    return [*parts, label((LEFT + RIGHT) / 2, AIR_BOTTOM + 42, 'time in hours', 'm l')]
+    words = f'time in hours from {start!r} s on' if start else 'time in hours'
+    return [*parts, label((LEFT + RIGHT) / 2, AIR_BOTTOM + 42, words, 'm l')]
 
 
 def stage_panel(taken, across):
@@ -170,7 +172,7 @@ def marks(taken, refused, start, across):
     """Resets and refused rows, one mark for each place on the paper."""
     resets = dict.fromkeys(short(across(time)) for time, _, _, reset in taken if reset)
     lost = dict.fromkeys(short(across(start if time is None else time)) for time in refused)
-    return [reset_mark(float(x), MARKS) for x in resets] + [refused_mark(float(x), MARKS) for x in lost]
+    return [reset_mark(float(x), RESETS) for x in resets] + [refused_mark(float(x), REFUSED) for x in lost]
 
 
 def reset_mark(x, y):

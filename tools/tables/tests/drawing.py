@@ -66,6 +66,12 @@ class Drawing(unittest.TestCase):
                     self.assertTrue(all(-20 <= each <= 1000 for each in numbers), part.get('d'))
         self.draw([None, row('nan', 277)], [(5, None), (1, None)])
 
+    def test_late_times_have_their_hours_from_the_first_row(self):
+        drawn = self.draw([row(1.7e9, 281), row(1.7e9 + 7200, 281)], [answer(0)] * 2)
+        texts = [part.text for part in drawn.iter(f'{SVG}text')]
+        for text in ('0', '0.5', '2', 'time in hours from 1700000000.0 s on'):
+            self.assertIn(text, texts)
+
     def test_long_files_stay_small(self):
         rows = [row(60 * n, 270 + n * 7919 % 150 / 10) for n in range(20000)]
         drawn = timeline.draw(rows, [answer(0)] * len(rows))
