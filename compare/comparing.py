@@ -1,5 +1,5 @@
-"""What run, speed and check share: the kinds and their columns, command lines, and when two answers
-agree."""
+"""What run, speed, check and tools/table share: the kinds and their columns; command lines, and when two
+answers agree."""
 
 import os
 import re
@@ -37,7 +37,7 @@ ANSWERS = forms({
               ' return_damper_command/f outdoor_damper_command/f minimum_outdoor_damper_command/f'
               ' supply_fan_status/b supply_fan_speed/f cooling_coil_command/f'
               ' heating_coil_command/f hot_water_plant_request/i alarm_level/i',
-    'relief': 'status/i averaged_pressure/f speed_1/f speed_2/f speed_3/f speed_4/f'
+    'relief': 'status/i averaged_pressure/f fan_speed_1/f fan_speed_2/f fan_speed_3/f fan_speed_4/f'
               ' damper_1/f damper_2/f damper_3/f damper_4/f',
     'econ': 'status/i outdoor_damper_min_limit/f minimum_outdoor_air_loop_enabled/b'
             ' outdoor_damper_command/f return_damper_command/f',
