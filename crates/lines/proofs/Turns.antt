@@ -2,13 +2,13 @@
 use Prim.Native.Nat.{ℕ, zero, suc, _+_, _-_, _*_, _≤_, _<_}
 use mathlib.Core.Path.{_≡_, refl, sym, ap, subst, _∙_}
 use mathlib.Core.List.{List, [], _∷_, _++_, append-assoc, append-nil}
-use mathlib.Core.Bool.{Bool, true, false, cond}
+use mathlib.Core.Bool.{Bool, true, false, cond, _||_}
 use native.Mathlib.Omega.{arith}
-use native.Mathlib.Numerals.{add-one}
+use native.Mathlib.Numerals.{add-one, unary-clauses}
 use lib.ListN.{length, getD, take, drop, length-append, length-take, length-drop, drop-of-length-le}
 use lib.Seq.{take-all, drop-cons, drop-drop, length-take-le}
-use lib.Dec.{eqb}
-use borrow.Author.Tests.{eqb-true, eqb-false, eq-eqb, ne-eqb}
+use lib.Dec.{ltb, eqb}
+use borrow.Author.Tests.{ltb-true, ltb-false, lt-ltb, le-ltb, eqb-true, eqb-false, eq-eqb, ne-eqb}
 use Rattle.row_lines.specs.Column.{Wrote, over}
 use Rattle.row_lines.proofs.Writing.{take-over}
 use Rattle.lines.specs.Lines.{Answer, Fed, feed, cut, beforeNewline, Kept, Answered, FedAs}
@@ -28,6 +28,34 @@ module _ (c : List ℕ) (i : ℕ) where
   pub newline-nowhere : length c ≤ i → beforeNewline (drop i c) ≡ 0
   unfolding beforeNewline
   newline-nowhere h = ap beforeNewline (drop-of-length-le c h)
+
+-- past bytes that hold none
+pub newline-past : (c : List ℕ) (i k : ℕ) → i + k ≤ length c → k ≤ beforeNewline (drop i c) → beforeNewline (drop i c) ≡ k + beforeNewline (drop (i + k) c)
+newline-past c i zero h n = simp unary-clauses (omega arith)
+newline-past c i (suc k) h n =
+    let e = newline-past c i k (omega arith) (omega arith) in
+    let f : getD c (i + k) 0 ≡ 10 → ⊥ = λ b. omega (arith, e, newline-here c (i + k) (omega arith) b) in
+    let g : i + suc k ≡ suc (i + k) = omega arith in
+    rw g (omega (arith, e, newline-later c (i + k) (omega arith) f))
+
+-- among one byte more
+pub newline-among : (c : List ℕ) (i k : ℕ) → i + k < length c
+    → ltb (beforeNewline (drop i c)) k || eqb (getD c (i + k) 0) 10 ≡ ltb (beforeNewline (drop i c)) (suc k)
+newline-among c i k h = by (ltb (beforeNewline (drop i c)) k) refl (eqb (getD c (i + k) 0) 10) refl
+  where
+    by : (s : Bool) → ltb (beforeNewline (drop i c)) k ≡ s → (t : Bool) → eqb (getD c (i + k) 0) 10 ≡ t
+        → s || t ≡ ltb (beforeNewline (drop i c)) (suc k)
+    by true e t f =
+        let l : beforeNewline (drop i c) < suc k = omega (arith, ltb-true (beforeNewline (drop i c)) k e) in
+        sym (lt-ltb _ _ l)
+    by false e true f =
+        let p = newline-past c i k (omega arith) (ltb-false _ _ e) in
+        let l : beforeNewline (drop i c) < suc k = omega (arith, p, newline-here c (i + k) h (eqb-true _ _ f)) in
+        sym (lt-ltb _ _ l)
+    by false e false f =
+        let p = newline-past c i k (omega arith) (ltb-false _ _ e) in
+        let l : suc k ≤ beforeNewline (drop i c) = omega (arith, p, newline-later c (i + k) h (eqb-false _ _ f)) in
+        sym (le-ltb _ _ l)
 
 pub newline-within : (l : List ℕ) → beforeNewline l ≤ length l
 unfolding beforeNewline

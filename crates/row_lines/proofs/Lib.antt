@@ -2,6 +2,7 @@
 pub mod Scanning
 pub mod Inverse
 pub mod Ways
+pub mod Digits
 pub mod Fields
 pub mod Writing
 pub mod Lines

@@ -1,6 +1,9 @@
 // A column, read: the number that stands in it.
 ghost use mathlib.Core.Path.{_≡_};
-ghost use Rattle.row_lines.specs.Scan.{scan};
+ghost use mathlib.Core.Bool.{true};
+ghost use Prim.Native.Nat.{_+_, _≤_};
+ghost use lib.ListN.{length};
+ghost use Rattle.row_lines.specs.Scan.{every, isSpace, isDigit, numberAt, scan};
 
 // What stands in a column: a number, with a minus before it or none, or no number.
 pub enum Scanned {
@@ -8,8 +11,8 @@ pub enum Scanned {
     Malformed,
 }
 
-// The number of a column: spaces, at most one minus, and digits with no leading zero up to its end, of a number below 2^64.
-pub fn scan(column: &[u8]) -> Scanned
+// The number of any column, byte by byte: spaces, at most one minus, and digits with no leading zero up to its end, of a number below 2^64.
+fn scan_bytes(column: &[u8]) -> Scanned
     ensures { λ r. ⌜ r ≡ scan (now (column .entry)) ⌝ }
 {
     if column.len() != 21 {
@@ -68,4 +71,108 @@ pub fn scan(column: &[u8]) -> Scanned
         i += 1;
     }
     Scanned::Number(negative, number)
+}
+
+// Whether there are spaces in the first 20 places.
+fn is_blank(column: &[u8]) -> bool
+    requires { ⌜ length (now column) ≡ 21 ⌝ }
+    ensures { λ r. ⌜ r ≡ every isSpace (now (column .entry)) 0 20 ⌝ }
+{
+    let mut good = true;
+    let mut k: usize = 0;
+    while k < 20 {
+        good = good & (column[k] == 32);
+        k += 1;
+    }
+    good
+}
+
+// Whether there are digits in the last 19 places.
+fn is_long(column: &[u8]) -> bool
+    requires { ⌜ length (now column) ≡ 21 ⌝ }
+    ensures { λ r. ⌜ r ≡ every isDigit (now (column .entry)) 2 19 ⌝ }
+{
+    let mut good = true;
+    let mut k: usize = 0;
+    while k < 19 {
+        let digit = column[2 + k];
+        good = good & ((digit >= 48) & (digit <= 57));
+        k += 1;
+    }
+    good
+}
+
+fn wide(byte: u8) -> u64
+    ensures { λ r. ⌜ r ≡ byte ⌝ }
+{
+    byte as u64
+}
+
+// The number of two digits, and of more: each half by itself, so that they are worked at the same time.
+fn two(column: &[u8], at: usize) -> u64
+    requires { ⌜ (at + 2 ≤ length (now column)) × (every isDigit (now column) at 2 ≡ true) ⌝ }
+    ensures { λ r. ⌜ r ≡ numberAt (now (column .entry)) at 2 ⌝ }
+{
+    wide(column[at]) * 10 + wide(column[at + 1]) - 528
+}
+
+fn four(column: &[u8], at: usize) -> u64
+    requires { ⌜ (at + 4 ≤ length (now column)) × (every isDigit (now column) at 4 ≡ true) ⌝ }
+    ensures { λ r. ⌜ r ≡ numberAt (now (column .entry)) at 4 ⌝ }
+{
+    two(column, at) * 100 + two(column, at + 2)
+}
+
+fn eight(column: &[u8], at: usize) -> u64
+    requires { ⌜ (at + 8 ≤ length (now column)) × (every isDigit (now column) at 8 ≡ true) ⌝ }
+    ensures { λ r. ⌜ r ≡ numberAt (now (column .entry)) at 8 ⌝ }
+{
+    four(column, at) * 10000 + four(column, at + 4)
+}
+
+// The number of the last 19 digits.
+fn nineteen(column: &[u8]) -> u64
+    requires { ⌜ (length (now column) ≡ 21) × (every isDigit (now column) 2 19 ≡ true) ⌝ }
+    ensures { λ r. ⌜ r ≡ numberAt (now (column .entry)) 2 19 ⌝ }
+{
+    let first = wide(column[2]) - 48;
+    let high = first * 100 + two(column, 3);
+    let low = eight(column, 5) * 100000000 + eight(column, 13);
+    high * 10000000000000000 + low
+}
+
+// The number of a column. A digit after 20 spaces, and 19 or 20 digits, which are what rows mostly hold, are not read byte by byte.
+pub fn scan(column: &[u8]) -> Scanned
+    ensures { λ r. ⌜ r ≡ scan (now (column .entry)) ⌝ }
+{
+    if column.len() == 21 {
+        if column[19] == 32 {
+            if is_blank(column) {
+                let last = column[20];
+                if last >= 48 {
+                    if last <= 57 {
+                        return Scanned::Number(false, wide(last - 48));
+                    }
+                }
+            }
+        }
+        if column[0] == 32 {
+            if is_long(column) {
+                let low = nineteen(column);
+                let leading = column[1];
+                if leading == 32 {
+                    if column[2] != 48 {
+                        return Scanned::Number(false, low);
+                    }
+                }
+                if leading == 49 {
+                    if low > 8446744073709551615 {
+                        return Scanned::Malformed;
+                    }
+                    return Scanned::Number(false, 10000000000000000000 + low);
+                }
+            }
+        }
+    }
+    scan_bytes(column)
 }

@@ -16,6 +16,9 @@ Inv-loop chunk from i₀ i = (i ≤ length chunk) × (i + beforeNewline (drop i 
 abbrev μ-loop : tie.MeasureT-loop
 μ-loop chunk from i₀ i = length chunk - i
 
+skip-requires : tie.Need-skip-requires Inv-loop μ-loop
+skip-requires c κs = search needs
+
 loop-holds : tie.Need-loop-holds Inv-loop μ-loop
 loop-holds c = search needs
 
@@ -25,7 +28,7 @@ shared-slice-read-if1 c = search needs
 returns : tie.Need-returns Inv-loop μ-loop
 returns c =
     let l = c .before .before .before .loop in
-    let chunk = c .before .before .before .before .args .chunk .now in
+    let chunk = c .before .before .before .before .before .before .args .chunk .now in
     omega (arith, l .inv .1, newline-here chunk (l .i) (c .before .before .loop-test .taken) (c .if1 .taken))
 
 add-i : tie.Need-add-i Inv-loop μ-loop
@@ -37,13 +40,13 @@ loop-less c = search needs
 loop-again : tie.Need-loop-again Inv-loop μ-loop
 loop-again c =
     let l = c .before .before .before .loop in
-    let chunk = c .before .before .before .before .args .chunk .now in
+    let chunk = c .before .before .before .before .before .before .args .chunk .now in
     (search needs, rw add-one (omega (arith, l .inv .1, newline-later chunk (l .i) (c .before .before .loop-test .taken) (c .if1 .left))))
 
 returns-2 : tie.Need-returns-2 Inv-loop μ-loop
 returns-2 c =
     let l = c .before .loop in
-    let chunk = c .before .before .args .chunk .now in
+    let chunk = c .before .before .before .before .args .chunk .now in
     omega (arith, l .inv .1, newline-nowhere chunk (l .i) (c .loop-test .left))
 
 pub line-end-spec : {M : Type 1} → statement M
@@ -52,6 +55,7 @@ line-end-spec =
     (tie.spec
     Inv-loop
     μ-loop
+    skip-requires
     loop-holds
     shared-slice-read-if1
     returns

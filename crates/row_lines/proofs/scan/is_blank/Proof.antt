@@ -1,0 +1,47 @@
+-- `is_blank` meets its contract. The loop's invariant: `good` says whether the first k of the places hold spaces. Assumes nothing.
+use Prim.Native.Nat.{ℕ, _+_, _-_, _≤_, _<_}
+use mathlib.Core.Path.{_≡_, sym, ap, _∙_}
+use native.Mathlib.Omega.{arith}
+use native.Mathlib.Numerals.{add-one}
+use lib.ListN.{length}
+use borrow.Author.Needs.{needs}
+use Rattle.row_lines.specs.Scan.{every, isSpace}
+use Rattle.row_lines.proofs.Digits.{every-none, every-more}
+use Rattle.row_lines.proofs.scan.is_blank.Statement.{statement}
+use Rattle.row_lines.proofs.scan.is_blank.Tie as tie
+
+abbrev Inv-loop : tie.InvT-loop
+Inv-loop column good₀ k₀ good k = (k ≤ 20) × (good ≡ every isSpace column 0 k)
+
+abbrev μ-loop : tie.MeasureT-loop
+μ-loop column good₀ k₀ good k = 20 - k
+
+loop-holds : tie.Need-loop-holds Inv-loop μ-loop
+loop-holds c = (omega arith, sym (every-none isSpace (c .args .column .now) 0))
+
+shared-slice-read-good : tie.Need-shared-slice-read-good Inv-loop μ-loop
+shared-slice-read-good c = search needs
+
+add-k : tie.Need-add-k Inv-loop μ-loop
+add-k c = search needs
+
+loop-less : tie.Need-loop-less Inv-loop μ-loop
+loop-less c = search needs
+
+loop-again : tie.Need-loop-again Inv-loop μ-loop
+loop-again c =
+    let s = c .before .before .before in
+    let l = c .before .before .loop in
+    let z : 0 + l .k ≡ l .k = omega arith in
+    (omega arith, rw (l .inv .1, add-one) (sym (rw z at (every-more isSpace (s .args .column .now) 0 (l .k)))))
+
+returns : tie.Need-returns Inv-loop μ-loop
+returns c =
+    let l = c .before .loop in
+    let e : l .k ≡ 20 = omega arith in
+    rw e at (l .inv .1)
+
+pub is-blank-spec : {M : Type 1} → statement M
+is-blank-spec =
+    tie.close
+    (tie.spec Inv-loop μ-loop loop-holds shared-slice-read-good add-k loop-less loop-again returns)
