@@ -1,3 +1,4 @@
 -- The laws that the proofs cite.
 pub mod Words
 pub mod Reading
+pub mod Feeding

@@ -1,0 +1,92 @@
+-- What a chunk leaves of the reader: lines of a kind, the first line, a part of it. For any three kinds. Assumes nothing.
+use Prim.Native.Nat.{ℕ, suc, _+_, _≤_, _<_}
+use mathlib.Core.Path.{_≡_, refl, sym, ap, _∙_}
+use mathlib.Core.List.{List, [], _∷_, _++_}
+use native.Mathlib.Omega.{arith}
+use lib.ListN.{length, take, drop}
+use lib.Seq.{take-all}
+use Rattle.lines.specs.Lines.{Answer, Fed, feed, cut, beforeNewline, Kept, FedAs}
+use Rattle.lines.proofs.Cutting.{after}
+use Rattle.lines.proofs.Turns.{feed-line, feed-part}
+use Rattle.row_reader.specs.declared.kind.Kind.{Kind}
+use Rattle.row_reader.specs.Kind.{kindOf}
+use Rattle.row_reader.specs.Reader.{Reader, First, Freeze, Relief, Econ, Stopped, settled, firstLine, readerLine, readerFeed, readerBegun}
+use Rattle.row_reader.proofs.Reading.{kind-cut, freeze-lines, relief-lines, econ-lines, stopped-feed}
+
+-- the same chunk and the same state by other names
+pub fed-is : {Q : Type 0} (f g : Fed Q) (q r : Q) (line : List ℕ) (len : ℕ) (out : List ℕ) (sent : ℕ) → f ≡ g → q ≡ r → FedAs f q line len out sent
+    → FedAs g r line len out sent
+fed-is {Q} f g q r line len out sent e d h = record {
+  state = sym d ∙ h .state ∙ ap (λ (x : Fed Q). x .next) e;
+  part = h .part ∙ ap (λ (x : Fed Q). cut (x .part)) e;
+  part-fits = h .part-fits;
+  said = h .said ∙ ap (λ (x : Fed Q). x .said) e;
+  said-fits = h .said-fits;
+}
+
+module _ {F R E : Type 0} (freshF : F) (freshR : R) (freshE : E) (lineF : F → List ℕ → Answer F) (lineR : R → List ℕ → Answer R) (lineE : E → List ℕ → Answer E) where
+  abbrev line : Reader F R E → List ℕ → Answer (Reader F R E)
+  line = readerLine freshF freshR freshE lineF lineR lineE
+
+  abbrev fed : Reader F R E → List ℕ → List ℕ → Fed (Reader F R E)
+  fed = readerFeed freshF freshR freshE lineF lineR lineE
+
+  abbrev begun : Kind → List ℕ → Fed (Reader F R E)
+  begun = readerBegun freshF freshR freshE lineF lineR lineE
+
+  -- a chunk of the lines of a kind
+  module _ (p chunk buffer : List ℕ) (len : ℕ) (out : List ℕ) (sent : ℕ) where
+    pub freeze-fed : (s t : F) → FedAs (feed lineF s p chunk) t buffer len out sent → FedAs (fed (Freeze s) p chunk) (Freeze t) buffer len out sent
+    unfolding readerFeed
+    freeze-fed s t h =
+        fed-is _ _ (Freeze t) (Freeze t) buffer len out sent (ap settled (sym (freeze-lines freshF freshR freshE lineF lineR lineE s p chunk))) refl
+        (record { state = ap Freeze (h .state); part = h .part; part-fits = h .part-fits; said = h .said; said-fits = h .said-fits })
+
+    pub relief-fed : (s t : R) → FedAs (feed lineR s p chunk) t buffer len out sent → FedAs (fed (Relief s) p chunk) (Relief t) buffer len out sent
+    unfolding readerFeed
+    relief-fed s t h =
+        fed-is _ _ (Relief t) (Relief t) buffer len out sent (ap settled (sym (relief-lines freshF freshR freshE lineF lineR lineE s p chunk))) refl
+        (record { state = ap Relief (h .state); part = h .part; part-fits = h .part-fits; said = h .said; said-fits = h .said-fits })
+
+    pub econ-fed : (s t : E) → FedAs (feed lineE s p chunk) t buffer len out sent → FedAs (fed (Econ s) p chunk) (Econ t) buffer len out sent
+    unfolding readerFeed
+    econ-fed s t h =
+        fed-is _ _ (Econ t) (Econ t) buffer len out sent (ap settled (sym (econ-lines freshF freshR freshE lineF lineR lineE s p chunk))) refl
+        (record { state = ap Econ (h .state); part = h .part; part-fits = h .part-fits; said = h .said; said-fits = h .said-fits })
+
+  -- a first line that does not end
+  pub first-part : (had : ℕ) (buffer chunk : List ℕ) (j : ℕ) → j ≡ beforeNewline chunk → j ≡ length chunk → (buffer′ : List ℕ) (len : ℕ)
+      → Kept buffer had (take j chunk) buffer′ len → (out : List ℕ) → FedAs (fed First (take had buffer) chunk) First buffer′ len out 0
+  unfolding readerFeed
+  first-part had buffer chunk j e d buffer′ len k out =
+      let p = take had buffer in
+      fed-is _ _ First First buffer′ len out 0 (ap settled (sym (feed-part line First p chunk (sym e ∙ d)))) refl
+      (record {
+        state = refl;
+        part = k .bytes ∙ ap (λ (x : List ℕ). cut (p ++ x)) (take-all j chunk (omega arith));
+        part-fits = k .fits;
+        said = refl;
+        said-fits = omega arith;
+      })
+
+  -- a first line that ends
+  pub first-ends : (had : ℕ) (buffer chunk : List ℕ) (j : ℕ) → j ≡ beforeNewline chunk → j < length chunk → (buffer′ : List ℕ) (len : ℕ)
+      → Kept buffer had (take j chunk) buffer′ len → (k : Kind) → k ≡ kindOf (take len buffer′)
+      → begun k (drop (j + 1) chunk) ≡ fed First (take had buffer) chunk
+  unfolding readerFeed readerLine
+  first-ends had buffer chunk j e d buffer′ len kept k n =
+      let p = take had buffer in
+      let b = beforeNewline chunk in
+      let m : kindOf (take len buffer′) ≡ kindOf (p ++ take b chunk) =
+      ap kindOf (kept .bytes) ∙ kind-cut (p ++ take j chunk) ∙ ap (λ (x : ℕ). kindOf (p ++ take x chunk)) e in
+      let s : j + 1 ≡ suc b = omega arith in
+      ap (λ (x : Kind). begun x (drop (j + 1) chunk)) (n ∙ m)
+      ∙ ap (λ (x : ℕ). begun (kindOf (p ++ take b chunk)) (drop x chunk)) s
+      ∙ ap settled (sym (feed-line line First p chunk (omega arith)))
+
+  -- a reader that has stopped
+  pub stopped-fed : (p chunk buffer out : List ℕ) → FedAs (fed Stopped p chunk) Stopped buffer 0 out 0
+  unfolding readerFeed
+  stopped-fed p chunk buffer out =
+      fed-is _ _ Stopped Stopped buffer 0 out 0 (sym (stopped-feed freshF freshR freshE lineF lineR lineE p chunk)) refl
+      (record { state = refl; part = refl; part-fits = omega arith; said = refl; said-fits = omega arith })

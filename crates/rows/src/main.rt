@@ -1,0 +1,111 @@
+// Reads a row file from standard input and writes its answers to standard output (document 01, 'Row lines'). What came is answered and written
+// before more is read, so it serves a pipe.
+ghost use mathlib.Core.Path.{_≡_};
+ghost use Prim.Native.Nat.{_+_, _*_, _≤_};
+ghost use lib.ListN.{length};
+use libc::STDIN_FILENO;
+use libc::STDOUT_FILENO;
+use row_reader::chunk::fresh_at;
+use row_reader::feed::feed;
+use row_reader::feed::finish;
+use row_reader::types::Phase;
+use row_reader::types::RowReader;
+
+// The reader after a turn, the bytes kept of a line, and whether there is a next turn.
+struct Turned {
+    reader: RowReader,
+    len: usize,
+    more: bool,
+}
+
+// The input has ended.
+fn end(reader: RowReader, line: &[u8], len: usize, out: &mut [u8])
+    requires { ⌜ (len ≤ length (now line)) × (22 ≤ length (now out)) ⌝ }
+{
+    let said = finish(reader, line, len, out);
+    io::write_all(STDOUT_FILENO, &out[..said]);
+}
+
+// Reads once, and answers the lines that end in what came. There is no next turn where the input has ended, the output is closed, or the first line
+// names no kind.
+fn turn(
+    buffer: &mut [u8],
+    line: &mut [u8],
+    out: &mut [u8],
+    times: &mut [f64; 512],
+    integrals: &mut [f64; 512],
+    reader: RowReader,
+    had: usize,
+) -> Turned
+    requires { ⌜ (length (now line) ≡ 256) × (had ≤ 256) × (22 * (256 + length (now buffer)) ≤ length (now out)) × (length (now times) ≡ 512) × (length (now integrals) ≡ 512) ⌝ }
+    ensures { λ r. ⌜ r .len ≤ 256 ⌝ }
+{
+    let got = libc::read(STDIN_FILENO, buffer);
+    let n = io::count(got, buffer);
+    if n == 0 {
+        end(reader, line, had, out);
+        return Turned {
+            reader,
+            len: had,
+            more: false,
+        };
+    }
+    let fed = feed(&buffer[..n], line, out, times, integrals, reader, had);
+    let sent = fed.sent;
+    let written = io::write_all(STDOUT_FILENO, &out[..sent]);
+    let next = fed.reader;
+    let phase = next.phase;
+    let stopped = phase.stopped();
+    Turned {
+        reader: next,
+        len: fed.len,
+        more: written & !stopped,
+    }
+}
+
+// Turn after turn. Nothing says that an input ends, so the turns are counted down, from a number that no run uses up.
+fn play(
+    buffer: &mut [u8],
+    line: &mut [u8],
+    out: &mut [u8],
+    times: &mut [f64; 512],
+    integrals: &mut [f64; 512],
+)
+    requires { ⌜ (length (now line) ≡ 256) × (22 * (256 + length (now buffer)) ≤ length (now out)) × (length (now times) ≡ 512) × (length (now integrals) ≡ 512) ⌝ }
+{
+    let mut reader = fresh_at(Phase::First);
+    let mut len: usize = 0;
+    let mut more = true;
+    let mut turns = u64::MAX;
+    while more & (turns > 0) {
+        turns -= 1;
+        let turned = turn(buffer, line, out, times, integrals, reader, len);
+        let next = turned.reader;
+        reader = next;
+        len = turned.len;
+        more = turned.more;
+    }
+}
+
+// The bytes read at a time.
+fn input_buffer() -> [u8; 32768]
+    ensures { λ r. ⌜ 32768 ≡ length r ⌝ }
+{
+    [0; 32768]
+}
+
+// Room for the answers to a chunk: each of its bytes, and of those kept of a line, might be an empty line.
+fn output_buffer() -> [u8; 726528]
+    ensures { λ r. ⌜ 726528 ≡ length r ⌝ }
+{
+    [0; 726528]
+}
+
+fn main() {
+    let mut buffer = input_buffer();
+    let mut line = [0u8; 256];
+    let mut out = output_buffer();
+    let mut times = [0.0; 512];
+    let mut integrals = [0.0; 512];
+    play(&mut buffer, &mut line, &mut out, &mut times, &mut integrals);
+}
