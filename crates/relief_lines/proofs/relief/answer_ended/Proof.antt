@@ -1,6 +1,6 @@
 -- `answer_ended` meets its contract: a line answered where it stands, or from what is kept of it. Assumes nothing.
-use mathlib.Core.Path.{_≡_, sym, _∙_}
 use Prim.Native.Nat.{_≤_}
+use mathlib.Core.Path.{sym, _∙_}
 use native.Mathlib.Omega.{arith}
 use lib.ListN.{length}
 use lib.Seq.{length-take-le}
