@@ -33,7 +33,7 @@ pub struct ReliefLine {
 }
 
 // A badly formed line.
-pub fn malformed() -> ReliefLine
+fn malformed() -> ReliefLine
     ensures { λ r. ⌜ r ≡ malformed ⌝ }
 {
     ReliefLine {
@@ -188,11 +188,11 @@ pub fn answer_relief(
             at: end,
         }
     } else {
-        let end = write_status_line(out, at, 5);
+        let refused = write_status_line(out, at, 5);
         ReliefSent {
             integrator,
             blocks,
-            at: end,
+            at: refused,
         }
     }
 }
