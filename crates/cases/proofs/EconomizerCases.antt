@@ -1,7 +1,7 @@
 -- Cases E1 and E2: what the outdoor air condition and the delays do at a row, from that row's and the row before's. Assumes nothing.
 use mathlib.Core.Path.{_≡_, refl}
 use mathlib.Core.Bool.{Bool, true, false, not, _&&_, _||_, cond}
-use lib.Ieee.{Float, lt, le, add, sub, sum, neg, isNan, round, ofBits}
+use lib.Ieee.{Float, lt, le, sub, isNan, round, ofBits}
 use Rattle.reals.specs.Constants.{plusZero, minusOne}
 use Rattle.reals.specs.declared.hysteresis.HysteresisState.{HysteresisState}
 use Rattle.reals.specs.Order.{greater}
@@ -13,7 +13,7 @@ use Rattle.logical.specs.declared.true_delay.TrueDelayState.{TrueDelayState}
 use Rattle.logical.proofs.Differ.{delays-differ-on-row-0}
 use Rattle.logical.specs.TrueDelay.{trueDelayNew, trueDelayNextTimer, trueDelayOutput, trueDelayUpdate}
 use Rattle.logical.specs.Switch.{logicalSwitch}
-use Rattle.logical.specs.TrueFalseHold.{trueFalseHoldNew, trueFalseHoldRequired, trueFalseHoldOutputAndTimer, trueFalseHoldOutput, trueFalseHoldUpdate}
+use Rattle.logical.specs.TrueFalseHold.{trueFalseHoldNew, trueFalseHoldOutputAndTimer, trueFalseHoldOutput, trueFalseHoldUpdate}
 use Rattle.past.specs.Whole.{run}
 use Rattle.refusals.specs.Refusals.{judge}
 use Rattle.refusals.specs.declared.Verdict.the-variants.{Accepted}
@@ -63,5 +63,5 @@ unfolding economizerSignals economizerNext enableOutput enableUpdate
 delays-later state row next e on = rw (economizer-returned state row, e, on) (record { outdoor = starts-false _ _ _ _ _ (unfold le ofBits in refl); return = starts-false _ _ _ _ _ (unfold le ofBits in refl) })
 
 pub starts-and-waits : StartsAndWaits
-unfolding enables run economizerRow stepBy economizerWorked economizerVerdict judge numbersFinite isSignNegative seenAbove economizerFresh economizerSignals economizerNext enableNew enableOutput enableUpdate hysteresisNew hysteresisOutput hysteresisUpdate trueFalseHoldNew trueFalseHoldRequired trueFalseHoldOutputAndTimer trueFalseHoldOutput trueFalseHoldUpdate trueDelayNew trueDelayNextTimer trueDelayOutput trueDelayUpdate integersEqual logicalSwitch seenNever seenGap greater switch isNan lt le add sub sum neg round ofBits
+unfolding enables run economizerRow stepBy economizerWorked economizerVerdict judge numbersFinite isSignNegative seenAbove economizerFresh economizerSignals economizerNext enableNew enableOutput enableUpdate hysteresisNew hysteresisOutput hysteresisUpdate trueFalseHoldNew trueFalseHoldOutputAndTimer trueFalseHoldOutput trueFalseHoldUpdate trueDelayNextTimer trueDelayOutput trueDelayUpdate integersEqual logicalSwitch seenNever seenGap greater switch isNan le sub ofBits
 starts-and-waits = record { first = delays-first; later = delays-later; waits = λ o. refl }

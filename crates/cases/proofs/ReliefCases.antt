@@ -50,6 +50,7 @@ sign-off : (b : Bool) → T (not b) → b ≡ false
 sign-off true h = absurd h
 sign-off false h = refl
 
+-- a fresh window is not full, and a first row of finite numbers whose time has its sign bit clear is accepted
 empty-not-full : (t : Float) → movingAverageIsFull movingAverageNew t ≡ false
 unfolding movingAverageIsFull movingAverageNew held zipWith dropOld
 empty-not-full t = refl
@@ -94,6 +95,7 @@ not-2 (pos n) = go (eqb n 3) refl
     go false e = refl
 not-2 (negsuc n) = refl
 
+-- so without alarms 3 each damper is the same
 levels : (alarm : List ℤ) (i : ℕ) → isLevel2 (level (map without3 alarm) i) ≡ isLevel2 (level alarm i)
 levels [] i = refl
 levels (z ∷ alarm) zero = not-2 z
@@ -109,11 +111,13 @@ commandsOr other (Answer.Commands c) = c
 commandsOr other (Answer.Refused r) = other
 
 module _ (state : ReliefState) (row : ReliefRow) where
+  -- the commands of an accepted row
   commands-are : (v : Verdict) (c : ReliefCommands) → stepBy v state row .answer ≡ Answer.Commands c → reliefCommands row (signalsAt state row) ≡ c
   unfolding stepBy commandsOr
   commands-are Accepted c e = ap (commandsOr c) e
   commands-are (Refused r) c e = ap (commandsOr (reliefCommands row (signalsAt state row))) e
 
+  -- signals do not depend on the alarms, commands not on alarms 3
   signals-same : (alarm : List ℤ) → signalsAt state (withAlarm row alarm) ≡ signalsAt state row
   unfolding signalsAt
   signals-same alarm = signals-whatever-the-alarm row (signalsAt state row) alarm (state .blocks) _
@@ -122,6 +126,7 @@ module _ (state : ReliefState) (row : ReliefRow) where
   unfolding reliefCommands
   commands-same = rw (dampers _ (row .alarm) (row .proof)) refl
 
+  -- so the step does not depend on alarms 3, and no speed on any
   without-3 : (v : Verdict) → stepBy v state (withAlarm row (map without3 (row .alarm))) ≡ stepBy v state row
   unfolding stepBy
   without-3 Accepted = rw (signals-same (map without3 (row .alarm)), commands-same, next-whatever-the-alarm row (signalsAt state row) (map without3 (row .alarm)) (state .blocks)) refl

@@ -4,18 +4,18 @@ use mathlib.Core.Path.{_≡_, refl}
 use mathlib.Core.Bool.{true, false}
 use mathlib.Core.List.{List, [], _∷_}
 use lib.IntN.{pos}
-use lib.Ieee.{binary64, lt, le, add, sub, sum, neg, mul, div, isNan, round, ofBits, toBits}
+use lib.Ieee.{binary64, le, sub, mul, div, isNan, round, ofBits, toBits}
 use Rattle.reals.specs.Order.{greater, lesser}
 use Rattle.reals.specs.Limits.{clamp}
 use Rattle.reals.specs.Line.{buildingsLine}
-use Rattle.reals.specs.Seen.{seenNever, seenAbove, seenGap}
+use Rattle.reals.specs.Seen.{seenNever, seenAbove}
 use Rattle.reals.specs.Sign.{isSignNegative}
 use Rattle.reals.specs.Switch.{switch}
 use Rattle.reals.specs.Hysteresis.{hysteresisNew, hysteresisOutput}
 use Rattle.reals.specs.Pid.{pidUnlimited, pidWithResetNew, pidWithResetOutput}
 use Rattle.logical.specs.Switch.{logicalSwitch}
-use Rattle.logical.specs.TrueFalseHold.{trueFalseHoldNew, trueFalseHoldRequired, trueFalseHoldOutputAndTimer, trueFalseHoldOutput}
-use Rattle.logical.specs.TrueDelay.{trueDelayNew, trueDelayNextTimer, trueDelayOutput}
+use Rattle.logical.specs.TrueFalseHold.{trueFalseHoldNew, trueFalseHoldOutputAndTimer, trueFalseHoldOutput}
+use Rattle.logical.specs.TrueDelay.{trueDelayNew, trueDelayOutput}
 use Rattle.refusals.specs.Refusals.{judge}
 use Rattle.reals.specs.Constants.{plusZero, one}
 use Rattle.economizer_controller.specs.declared.types.EconomizerRow.{EconomizerRow}
@@ -76,7 +76,7 @@ commands : EconomizerCommands
 commands = record { «outdoor_damper_min_limit» = plusZero; «minimum_outdoor_air_loop_enabled» = true; «outdoor_damper_command» = plusZero; «return_damper_command» = one }
 
 answer-is : economizerRow economizerFresh row .answer ≡ answer.Commands commands
-unfolding row commands economizerRow stepBy economizerVerdict judge numbersFinite isSignNegative seenAbove economizerFresh economizerSignals economizerCommands minimumOutdoorAirLoopEnabled damperLimits enableNew enableOutput enableLimits reliefModulation hysteresisNew hysteresisOutput pidUnlimited pidWithResetNew pidWithResetOutput trueFalseHoldNew trueFalseHoldRequired trueFalseHoldOutputAndTimer trueFalseHoldOutput trueDelayNew trueDelayNextTimer trueDelayOutput integersEqual logicalSwitch seenNever seenGap buildingsLine clamp greater lesser switch isNan lt le add sub sum neg mul div round ofBits
+unfolding row commands economizerRow stepBy economizerVerdict judge numbersFinite isSignNegative seenAbove economizerFresh economizerSignals economizerCommands minimumOutdoorAirLoopEnabled damperLimits enableNew enableOutput enableLimits reliefModulation hysteresisNew hysteresisOutput pidUnlimited pidWithResetNew pidWithResetOutput trueFalseHoldNew trueFalseHoldOutputAndTimer trueFalseHoldOutput trueDelayNew trueDelayOutput integersEqual logicalSwitch seenNever buildingsLine clamp greater lesser switch isNan le sub mul div ofBits
 answer-is = refl
 
 -- the line of the commands

@@ -1,12 +1,12 @@
 -- The one fact that covers every case of the table; F1 to F6 are computed here. Assumes nothing.
 use mathlib.Core.Path.{refl}
-use lib.Ieee.{lt, le, add, sub, sum, neg, round, ofBits, isNan}
+use lib.Ieee.{le, sub, ofBits, isNan}
 use Rattle.reals.specs.Order.{greater}
 use Rattle.reals.specs.Seen.{seenNever, seenAbove, seenElapsed, seenGap}
 use Rattle.reals.specs.Sign.{isSignNegative}
 use Rattle.reals.specs.Switch.{switch}
 use Rattle.reals.specs.Threshold.{crosses, thresholdAbove, thresholdBelow, thresholdOutput, thresholdUpdate}
-use Rattle.logical.specs.Edge.{edgeNew, edgeOutput, edgeUpdate}
+use Rattle.logical.specs.Edge.{edgeOutput, edgeUpdate}
 use Rattle.logical.specs.Latch.{latchNew, latchOutput, latchUpdate}
 use Rattle.logical.specs.Switch.{logicalSwitch}
 use Rattle.logical.specs.Timer.{entryTime, elapsedTime}
@@ -25,7 +25,7 @@ use Rattle.cases.proofs.ReliefCases.{first-mean-told, alarm-guard, wait
 use Rattle.cases.proofs.EconomizerCases.{rises-and-stays, starts-and-waits}
 
 pub all-cases : Cases
-unfolding stages signalled run freezeRow stepBy freezeVerdict judge numbersFinite isSignNegative seenAbove freezeFresh freezeNext freezeCommands freezeSignals freezeCalls stageNumber crosses thresholdAbove thresholdBelow thresholdOutput thresholdUpdate edgeNew edgeOutput edgeUpdate latchNew latchOutput latchUpdate logicalSwitch entryTime elapsedTime heldTimerNew heldTimerOutput heldTimerUpdate trueFalseHoldNew trueFalseHoldRequired trueFalseHoldOutputAndTimer trueFalseHoldOutput trueFalseHoldUpdate seenNever seenElapsed seenGap greater switch isNan lt le add sub sum neg round ofBits
+unfolding stages signalled run freezeRow stepBy freezeVerdict judge numbersFinite isSignNegative seenAbove freezeFresh freezeNext freezeCommands freezeSignals freezeCalls stageNumber crosses thresholdAbove thresholdBelow thresholdOutput thresholdUpdate edgeOutput edgeUpdate latchNew latchOutput latchUpdate logicalSwitch entryTime elapsedTime heldTimerNew heldTimerOutput heldTimerUpdate trueFalseHoldNew trueFalseHoldRequired trueFalseHoldOutputAndTimer trueFalseHoldOutput trueFalseHoldUpdate seenNever seenElapsed seenGap greater switch isNan le sub ofBits
 all-cases = record {
   f1 = λ o. (refl, refl);
   f2 = λ o. (refl, refl, refl);
