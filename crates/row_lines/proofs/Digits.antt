@@ -7,9 +7,8 @@ use native.Mathlib.Omega.{arith}
 use native.Mathlib.Numerals.{add-one, unary-clauses}
 use native.Mathlib.Nat.{pow-suc, mul-assoc}
 use lib.ListN.{length, getD}
-use borrow.Author.Tests.{leb-true, eqb-true, eqb-false, le-leb}
+use borrow.Author.Tests.{leb-true, eqb-true, eqb-false}
 use lib.Dec.{leb, eqb}
-use Rattle.row_lines.specs.declared.scan.Scanned.{Scanned}
 use Rattle.row_lines.specs.declared.scan.Scanned.the-variants as scanned
 use Rattle.row_lines.specs.Scan.{isSpace, isDigit, every, numberAt, limit, scan}
 use Rattle.row_lines.proofs.Scanning.{Blank, Number, scanTo}

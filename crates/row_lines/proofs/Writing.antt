@@ -1,15 +1,16 @@
 -- Texts written into a buffer: digit by digit, and one after another. Assumes nothing.
 use Prim.Native.Nat.{ℕ, zero, suc, _+_, _-_, _*_, _/_, _%_, _^_, _≤_, _<_}
 use mathlib.Core.Path.{_≡_, refl, sym, ap, _∙_, subst}
-use mathlib.Core.List.{List, [], _∷_, _++_, append-assoc}
+use mathlib.Core.List.{List, [], _∷_, _++_, append-assoc, append-nil}
 use mathlib.Core.Bool.{Bool, true, false, cond}
 use native.Mathlib.Omega.{arith}
-use native.Mathlib.Nat.{pow-suc}
+use native.Mathlib.Nat.{pow-suc, mul-assoc, mul-pos, one-le-pow}
+use native.Mathlib.Numerals.{add-one}
 use lib.ListN.{length, take, drop, set, replicate, length-set, length-replicate, length-append, length-drop}
 use lib.Seq.{take-set-le, set-split, take-at, drop-at, drop-drop, append-snoc, length-take-le, paste-zero}
 use lib.Dec.{ltb}
 use borrow.Author.Tests.{lt-ltb, le-ltb}
-use Rattle.row_lines.specs.Column.{pad, text, over, Wrote}
+use Rattle.row_lines.specs.Column.{mark, pad, text, digits, column, over, Wrote}
 use Rattle.row_lines.specs.Line.{joined}
 use Rattle.row_lines.proofs.Scanning.{length-pad, length-text, replicate-snoc}
 
@@ -128,6 +129,11 @@ put-over l at m (suc w) n h =
     (pad-over (set l (at + w) x) at m w k ∙ over-snoc l at w x i (pad m w) (length-pad m w))
     (put-over (set l (at + w) x) at m w (n / 10) k ∙ over-snoc l at w x i (text m w (n / 10)) (length-text m w (n / 10)))
 
+-- a text that is 21 wide after the mark of a sign is a column
+pub column-over : (l l′ : List ℕ) (at m : ℕ) (negative : Bool) (n : ℕ) → m ≡ mark negative → l′ ≡ over l at (text m 21 n) → l′ ≡ over l at (column negative n)
+unfolding column
+column-over l l′ at m negative n e f = f ∙ ap (λ (x : ℕ). over l at (text x 21 n)) e
+
 -- ---- one text written after another
 
 module _ (l : List ℕ) (at : ℕ) (a : List ℕ) (h : at + length a ≤ length l) where
@@ -160,6 +166,101 @@ pub byte-over : (l : List ℕ) (at x : ℕ) → at < length l → set l at x ≡
 byte-over l at x h =
     let e : suc at ≡ at + 1 = omega arith in
     set-split l at x h ∙ ap (λ (k : ℕ). take at l ++ x ∷ drop k l) e ∙ sym (append-snoc (take at l) x (drop (at + 1) l))
+
+-- a text of n bytes, and another where it ends
+pub over-both : (l : List ℕ) (at n : ℕ) (a b : List ℕ) → length a ≡ n → at + n ≤ length l → over (over l at a) (at + n) b ≡ over l at (a ++ b)
+over-both l at n a b e h = ap (λ (k : ℕ). over (over l at a) (at + k) b) (sym e) ∙ over-over l at a (omega arith) b
+
+-- two bytes
+pub bytes-over : (l : List ℕ) (at x y : ℕ) → at + 2 ≤ length l → set (set l at x) (at + 1) y ≡ over l at (x ∷ y ∷ [])
+bytes-over l at x y h =
+    let f : at < length l = omega arith in
+    let g : at + 1 < length (set l at x) = rw length-set (omega arith) in
+    byte-over (set l at x) (at + 1) y g
+    ∙ ap (λ (b : List ℕ). over b (at + 1) (y ∷ [])) (byte-over l at x f)
+    ∙ over-both l at 1 (x ∷ []) (y ∷ []) refl (omega arith)
+
+-- ---- a number written in groups of digits
+
+pub length-digits : (w n : ℕ) → length (digits w n) ≡ w
+unfolding digits
+length-digits zero n = refl
+length-digits (suc w) n = length-append (digits w (n / 10)) _ ∙ ap (λ (k : ℕ). k + 1) (length-digits w (n / 10)) ∙ add-one w
+
+digits-none : (n : ℕ) → digits 0 n ≡ []
+unfolding digits
+digits-none n = refl
+
+digits-more : (w n : ℕ) → digits (suc w) n ≡ digits w (n / 10) ++ ((48 + n % 10) ∷ [])
+unfolding digits
+digits-more w n = refl
+
+pub digits-two : (n : ℕ) → n < 100 → digits 2 n ≡ (48 + n / 10) ∷ (48 + n % 10) ∷ []
+unfolding digits
+digits-two n h =
+    let e : n / 10 % 10 ≡ n / 10 = omega arith in
+    rw e
+
+text-more : (m w n : ℕ) → 10 ≤ n → text m (suc w) n ≡ text m w (n / 10) ++ ((48 + n % 10) ∷ [])
+text-more m w n h = simp (le-ltb _ _ h)
+
+module _ (a b k : ℕ) where
+  -- one digit less
+  shift : a * 10 ^ suc k + b ≡ a * 10 ^ k * 10 + b
+  shift = ap (λ (x : ℕ). a * x + b) (pow-suc 10 k) ∙ ap (λ (x : ℕ). x + b) (sym (mul-assoc a (10 ^ k) 10))
+
+  shift-div : (a * 10 ^ suc k + b) / 10 ≡ a * 10 ^ k + b / 10
+  shift-div = rw shift (omega arith)
+
+  shift-mod : (a * 10 ^ suc k + b) % 10 ≡ b % 10
+  shift-mod = rw shift (omega arith)
+
+pub digits-join : (w k a b : ℕ) → b < 10 ^ k → digits (w + k) (a * 10 ^ k + b) ≡ digits w a ++ digits k b
+digits-join w zero a b h =
+    let e : a * 10 ^ 0 + b ≡ a = omega arith in
+    let o : w + 0 ≡ w = omega arith in
+    rw (e, o) (sym (ap (λ (l : List ℕ). digits w a ++ l) (digits-none b) ∙ append-nil (digits w a)))
+digits-join w (suc k) a b h =
+    let q : w + suc k ≡ suc (w + k) = omega arith in
+    let f : b / 10 < 10 ^ k = omega (arith, pow-suc 10 k) in
+    rw (q, digits-more (w + k) (a * 10 ^ suc k + b), shift-div a b k, shift-mod a b k, digits-join w k a (b / 10) f, digits-more k b)
+    (append-assoc (digits w a) (digits k (b / 10)) ((48 + b % 10) ∷ []))
+
+pub text-join : (m w k a b : ℕ) → 0 < a → b < 10 ^ k → text m (w + k) (a * 10 ^ k + b) ≡ text m w a ++ digits k b
+text-join m w zero a b p h =
+    let e : a * 10 ^ 0 + b ≡ a = omega arith in
+    let o : w + 0 ≡ w = omega arith in
+    rw (e, o) (sym (ap (λ (l : List ℕ). text m w a ++ l) (digits-none b) ∙ append-nil (text m w a)))
+text-join m w (suc k) a b p h =
+    let q : w + suc k ≡ suc (w + k) = omega arith in
+    let f : b / 10 < 10 ^ k = omega (arith, pow-suc 10 k) in
+    let g : 0 < a * 10 ^ k = mul-pos p (one-le-pow k 10 (omega arith)) in
+    let t : 10 ≤ a * 10 ^ suc k + b = omega (arith, shift a b k) in
+    ap (λ (j : ℕ). text m j (a * 10 ^ suc k + b)) q
+    ∙ text-more m (w + k) (a * 10 ^ suc k + b) t
+    ∙ ap (λ (j : ℕ). text m (w + k) j ++ ((48 + (a * 10 ^ suc k + b) % 10) ∷ [])) (shift-div a b k)
+    ∙ ap (λ (j : ℕ). text m (w + k) (a * 10 ^ k + b / 10) ++ ((48 + j) ∷ [])) (shift-mod a b k)
+    ∙ ap (λ (l : List ℕ). l ++ ((48 + b % 10) ∷ [])) (text-join m w k a (b / 10) p f)
+    ∙ append-assoc (text m w a) (digits k (b / 10)) ((48 + b % 10) ∷ [])
+    ∙ ap (λ (l : List ℕ). text m w a ++ l) (sym (digits-more k b))
+
+-- digits written after those of a, or after the text of a: those of the number that they make
+module _ (l l′ l″ : List ℕ) (at w k a b n : ℕ) (fits : at + w ≤ length l) (small : b < 10 ^ k) (is : n ≡ a * 10 ^ k + b) where
+  pub digits-over : l′ ≡ over l at (digits w a) → l″ ≡ over l′ (at + w) (digits k b) → l″ ≡ over l at (digits (w + k) n)
+  digits-over e f =
+      f
+      ∙ ap (λ (x : List ℕ). over x (at + w) (digits k b)) e
+      ∙ over-both l at w (digits w a) (digits k b) (length-digits w a) fits
+      ∙ ap (λ (t : List ℕ). over l at t) (sym (digits-join w k a b small))
+      ∙ ap (λ (j : ℕ). over l at (digits (w + k) j)) (sym is)
+
+  pub text-over : (m : ℕ) → 0 < a → l′ ≡ over l at (text m w a) → l″ ≡ over l′ (at + w) (digits k b) → l″ ≡ over l at (text m (w + k) n)
+  text-over m p e f =
+      f
+      ∙ ap (λ (x : List ℕ). over x (at + w) (digits k b)) e
+      ∙ over-both l at w (text m w a) (digits k b) (length-text m w a) fits
+      ∙ ap (λ (t : List ℕ). over l at t) (sym (text-join m w k a b p small))
+      ∙ ap (λ (j : ℕ). over l at (text m (w + k) j)) (sym is)
 
 -- two texts, the second where the first ends, are one
 pub wrote-both : (l l′ l″ : List ℕ) (at at′ at″ : ℕ) (a b : List ℕ) (n m : ℕ) → at + n ≤ length l

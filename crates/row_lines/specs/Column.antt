@@ -29,6 +29,11 @@ abbrev pub text : ℕ → ℕ → ℕ → List ℕ
 text m zero n = []
 text m (suc w) n = cond (ltb n 10) (pad m w) (text m w (n / 10)) ++ ((48 + n % 10) ∷ [])
 
+-- the last w digits of n, with zeros before its first
+unfoldable pub digits : ℕ → ℕ → List ℕ
+digits zero n = []
+digits (suc w) n = digits w (n / 10) ++ ((48 + n % 10) ∷ [])
+
 -- the column of a number, or of its negation
 unfoldable pub column : Bool → ℕ → List ℕ
 column negative n = text (mark negative) width n

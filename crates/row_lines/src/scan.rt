@@ -108,7 +108,7 @@ fn wide(byte: u8) -> u64
     byte as u64
 }
 
-// The number of two digits, and of more: each half by itself, so that they are worked at the same time.
+// The number of two digits, and of more: each half by itself, so that they are worked at the same time. The byte of a digit is 48 above it.
 fn two(column: &[u8], at: usize) -> u64
     requires { ⌜ (at + 2 ≤ length (now column)) × (every isDigit (now column) at 2 ≡ true) ⌝ }
     ensures { λ r. ⌜ r ≡ numberAt (now (column .entry)) at 2 ⌝ }
@@ -141,7 +141,8 @@ fn nineteen(column: &[u8]) -> u64
     high * 10000000000000000 + low
 }
 
-// The number of a column. A digit after 20 spaces, and 19 or 20 digits, which are what rows mostly hold, are not read byte by byte.
+// The number of a column. A digit after 20 spaces, and 19 or 20 digits, which are what rows mostly hold, are not read byte by byte. Of 20 digits the first
+// is a 1, and the others are at most those of 2^64 - 1.
 pub fn scan(column: &[u8]) -> Scanned
     ensures { λ r. ⌜ r ≡ scan (now (column .entry)) ⌝ }
 {

@@ -1,6 +1,4 @@
 -- `four` meets its contract. Assumes nothing.
-use Prim.Native.Nat.{ℕ, _+_, _-_, _*_, _^_, _≤_, _<_}
-use mathlib.Core.Path.{_≡_, sym, ap, _∙_}
 use native.Mathlib.Omega.{arith}
 use borrow.Author.Needs.{needs}
 use Rattle.row_lines.proofs.Digits.{groups}

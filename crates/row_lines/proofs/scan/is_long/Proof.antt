@@ -1,9 +1,8 @@
 -- `is_long` meets its contract. The loop's invariant: `good` says whether the first k of the places hold digits. Assumes nothing.
-use Prim.Native.Nat.{ℕ, _+_, _-_, _≤_, _<_}
-use mathlib.Core.Path.{_≡_, sym, ap, _∙_}
+use Prim.Native.Nat.{_-_, _≤_}
+use mathlib.Core.Path.{_≡_, sym}
 use native.Mathlib.Omega.{arith}
 use native.Mathlib.Numerals.{add-one}
-use lib.ListN.{length}
 use borrow.Author.Needs.{needs}
 use Rattle.row_lines.specs.Scan.{every, isDigit}
 use Rattle.row_lines.proofs.Digits.{every-none, every-more}

@@ -1,12 +1,12 @@
 -- `scan` meets its contract: each way that does not read byte by byte is one of proofs/Digits.antt. Assumes nothing.
-use Prim.Native.Nat.{ℕ, _+_, _-_, _*_, _≤_, _<_}
+use Prim.Native.Nat.{ℕ, _+_}
 use mathlib.Core.Path.{_≡_, sym, ap, _∙_}
 use mathlib.Core.Bool.{true, false}
 use mathlib.Core.List.{List}
 use lib.ListN.{length, getD}
 use borrow.Author.Needs.{needs}
 use Rattle.row_lines.specs.declared.scan.Scanned.the-variants as scanned
-use Rattle.row_lines.specs.Scan.{every, isDigit, numberAt, scan}
+use Rattle.row_lines.specs.Scan.{every, isDigit}
 use Rattle.row_lines.proofs.Digits.{digit-seen, long-seen, longer-seen, too-long}
 use Rattle.row_lines.proofs.scan.scan.Statement.{statement}
 use Rattle.row_lines.proofs.scan.scan.Tie as tie
