@@ -1,17 +1,27 @@
 -- What a chunk leaves of the reader: lines of a kind, the first line, a part of it. For any three kinds. Assumes nothing.
-use Prim.Native.Nat.{ℕ, suc, _+_, _≤_, _<_}
+use Prim.Native.Nat.{ℕ, suc, _+_, _-_, _≤_, _<_}
 use mathlib.Core.Path.{_≡_, refl, sym, ap, _∙_}
-use mathlib.Core.List.{List, [], _∷_, _++_}
+use mathlib.Core.List.{List, [], _∷_, _++_, append-nil}
 use native.Mathlib.Omega.{arith}
-use lib.ListN.{length, take, drop}
+use lib.ListN.{length, take, drop, length-drop}
 use lib.Seq.{take-all}
+use Rattle.row_lines.specs.Line.{statusLine}
 use Rattle.lines.specs.Lines.{Answer, Fed, feed, cut, beforeNewline, Kept, FedAs}
 use Rattle.lines.proofs.Cutting.{after}
-use Rattle.lines.proofs.Turns.{feed-line, feed-part}
+use Rattle.lines.proofs.Turns.{newline-within, feed-line, feed-part}
 use Rattle.row_reader.specs.declared.kind.Kind.{Kind}
+use Rattle.row_reader.specs.declared.kind.Kind.the-variants as kind
 use Rattle.row_reader.specs.Kind.{kindOf}
 use Rattle.row_reader.specs.Reader.{Reader, First, Freeze, Relief, Econ, Stopped, settled, firstLine, readerLine, readerFeed, readerBegun}
 use Rattle.row_reader.proofs.Reading.{kind-cut, freeze-lines, relief-lines, econ-lines, stopped-feed}
+
+-- the place of the first newline, looked for from the start of a chunk
+module _ (chunk : List ℕ) (j : ℕ) (e : j ≡ 0 + beforeNewline (drop 0 chunk)) where
+  pub found-at : j ≡ beforeNewline chunk
+  found-at = omega (arith, e)
+
+  pub found-within : j ≤ length chunk
+  found-within = omega (arith, found-at, newline-within chunk)
 
 -- the same chunk and the same state by other names
 pub fed-is : {Q : Type 0} (f g : Fed Q) (q r : Q) (line : List ℕ) (len : ℕ) (out : List ℕ) (sent : ℕ) → f ≡ g → q ≡ r → FedAs f q line len out sent
@@ -72,7 +82,7 @@ module _ {F R E : Type 0} (freshF : F) (freshR : R) (freshE : E) (lineF : F → 
   -- a first line that ends
   pub first-ends : (had : ℕ) (buffer chunk : List ℕ) (j : ℕ) → j ≡ beforeNewline chunk → j < length chunk → (buffer′ : List ℕ) (len : ℕ)
       → Kept buffer had (take j chunk) buffer′ len → (k : Kind) → k ≡ kindOf (take len buffer′)
-      → begun k (drop (j + 1) chunk) ≡ fed First (take had buffer) chunk
+      → begun k (take (length chunk - (j + 1)) (drop (j + 1) chunk)) ≡ fed First (take had buffer) chunk
   unfolding readerFeed readerLine
   first-ends had buffer chunk j e d buffer′ len kept k n =
       let p = take had buffer in
@@ -80,7 +90,10 @@ module _ {F R E : Type 0} (freshF : F) (freshR : R) (freshE : E) (lineF : F → 
       let m : kindOf (take len buffer′) ≡ kindOf (p ++ take b chunk) =
       ap kindOf (kept .bytes) ∙ kind-cut (p ++ take j chunk) ∙ ap (λ (x : ℕ). kindOf (p ++ take x chunk)) e in
       let s : j + 1 ≡ suc b = omega arith in
-      ap (λ (x : Kind). begun x (drop (j + 1) chunk)) (n ∙ m)
+      let r : take (length chunk - (j + 1)) (drop (j + 1) chunk) ≡ drop (j + 1) chunk =
+      take-all (length chunk - (j + 1)) (drop (j + 1) chunk) (omega (arith, length-drop (j + 1) chunk)) in
+      ap (λ (x : List ℕ). begun k x) r
+      ∙ ap (λ (x : Kind). begun x (drop (j + 1) chunk)) (n ∙ m)
       ∙ ap (λ (x : ℕ). begun (kindOf (p ++ take b chunk)) (drop x chunk)) s
       ∙ ap settled (sym (feed-line line First p chunk (omega arith)))
 
@@ -90,3 +103,10 @@ module _ {F R E : Type 0} (freshF : F) (freshR : R) (freshE : E) (lineF : F → 
   stopped-fed p chunk buffer out =
       fed-is _ _ Stopped Stopped buffer 0 out 0 (sym (stopped-feed freshF freshR freshE lineF lineR lineE p chunk)) refl
       (record { state = refl; part = refl; part-fits = omega arith; said = refl; said-fits = omega arith })
+
+  -- and one that stops, its first line naming no kind
+  pub stopped-begun : (chunk : List ℕ) → begun kind.Unknown chunk ≡ record { next = Stopped; part = []; said = statusLine 6 }
+  stopped-begun chunk =
+      ap (λ (f : Fed (Reader F R E)). record { next = f .next; part = f .part; said = statusLine 6 ++ f .said })
+      (stopped-feed freshF freshR freshE lineF lineR lineE [] chunk)
+      ∙ ap (λ (x : List ℕ). record { next = Stopped; part = []; said = x }) (append-nil (statusLine 6))

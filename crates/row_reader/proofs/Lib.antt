@@ -2,3 +2,4 @@
 pub mod Words
 pub mod Reading
 pub mod Feeding
+pub mod RowFeeding

@@ -66,16 +66,16 @@ fn first_chunk(
 {
     let j = line_end(chunk, 0);
     let len = keep(line, had, &chunk[..j]);
-    if j == chunk.len() {
-        let reader = fresh_at(Phase::First);
-        return Fed {
-            reader,
-            len,
-            sent: 0,
-        };
+    if j < chunk.len() {
+        let kind = kind_of(&line[..len]);
+        return begin_chunk(kind, &chunk[j + 1..], line, out, times, integrals);
     }
-    let kind = kind_of(&line[..len]);
-    begin_chunk(kind, &chunk[j + 1..], line, out, times, integrals)
+    let reader = fresh_at(Phase::First);
+    Fed {
+        reader,
+        len,
+        sent: 0,
+    }
 }
 
 // Helper. Feeds a chunk to the reader, after the `had` bytes kept of a line: answers the lines that end in it, and keeps the part of a line that is left.

@@ -1,82 +1,63 @@
+-- `finish` meets its contract, phase by phase. Assumes nothing.
+use mathlib.Core.Path.{refl}
+use Rattle.row_reader.proofs.RowFeeding.{said-all, finished}
 use borrow.Author.Needs.{needs}
 use Rattle.row_reader.proofs.feed.finish.Statement.{statement}
 use Rattle.row_reader.proofs.feed.finish.Tie as tie
-use Rattle.row_reader.proofs.feed.finish.Reads as reads
-use Rattle.row_reader.proofs.feed.finish.Lts as lts
-use Rattle.row_lines.proofs.line.write_status_line.Reads as write-status-line-reads
-use Rattle.row_reader.proofs.feed.last_line.Reads as last-line-reads
 
--- src/feed.rt:126:43
 enum-told : tie.Need-enum-told
 enum-told c = search needs
 
--- src/feed.rt:126:25
 write-status-line-requires : tie.Need-write-status-line-requires
 write-status-line-requires c κs = search needs
 
--- src/feed.rt:127:47
 enum-told-2 : tie.Need-enum-told-2
 enum-told-2 c = search needs
 
--- src/feed.rt:127:26
 last-line-requires : tie.Need-last-line-requires
 last-line-requires c κs = search needs
 
--- src/feed.rt:128:47
 enum-told-3 : tie.Need-enum-told-3
 enum-told-3 c = search needs
 
--- src/feed.rt:128:26
 last-line-requires-2 : tie.Need-last-line-requires-2
 last-line-requires-2 c κs = search needs
 
--- src/feed.rt:129:45
 enum-told-4 : tie.Need-enum-told-4
 enum-told-4 c = search needs
 
--- src/feed.rt:129:24
 last-line-requires-3 : tie.Need-last-line-requires-3
 last-line-requires-3 c κs = search needs
 
--- src/feed.rt:130:27
 enum-told-5 : tie.Need-enum-told-5
 enum-told-5 c = search needs
 
--- src/feed.rt:120:1
 same-length : tie.Need-same-length
 same-length c = search needs
 
--- src/feed.rt:120:1
 returns : tie.Need-returns
-returns c = ?
+returns c = finished _ _ (c .before .before .before .before .enum-told .given .1) _ _ _ _ (λ f r e. said-all _ _ _ _ _ (c .before .before .write-status-line .ensures))
 
--- src/feed.rt:120:1
 same-length-2 : tie.Need-same-length-2
 same-length-2 c = search needs
 
--- src/feed.rt:120:1
 returns-2 : tie.Need-returns-2
-returns-2 c = ?
+returns-2 c = finished _ _ (c .before .before .before .before .enum-told2 .given .1) _ _ _ _ (λ f r e. c .before .before .last-line .ensures)
 
--- src/feed.rt:120:1
 same-length-3 : tie.Need-same-length-3
 same-length-3 c = search needs
 
--- src/feed.rt:120:1
 returns-3 : tie.Need-returns-3
-returns-3 c = ?
+returns-3 c = finished _ _ (c .before .before .before .before .enum-told3 .given .1) _ _ _ _ (λ f r e. c .before .before .last-line2 .ensures)
 
--- src/feed.rt:120:1
 same-length-4 : tie.Need-same-length-4
 same-length-4 c = search needs
 
--- src/feed.rt:120:1
 returns-4 : tie.Need-returns-4
-returns-4 c = ?
+returns-4 c = finished _ _ (c .before .before .before .before .enum-told4 .given .1) _ _ _ _ (λ f r e. c .before .before .last-line3 .ensures)
 
--- src/feed.rt:120:1
 returns-5 : tie.Need-returns-5
-returns-5 c = ?
+returns-5 c = finished _ _ (c .enum-told5 .given .1) _ _ _ _ (λ f r e. record { bytes = refl; long = refl; place = refl })
 
 pub finish-spec : {M : Type 1} → statement M
 finish-spec =

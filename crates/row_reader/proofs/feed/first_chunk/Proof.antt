@@ -1,81 +1,67 @@
+-- `first_chunk` meets its contract: by whether the first line ends. Assumes nothing.
+use mathlib.Core.Path.{sym}
+use lib.Seq.{length-take-le}
+use Rattle.lines.proofs.Turns.{part-length}
+use Rattle.row_reader.proofs.Feeding.{found-within}
+use Rattle.row_reader.proofs.RowFeeding.{first-line-ends, first-line-waits}
 use borrow.Author.Needs.{needs}
 use Rattle.row_reader.proofs.feed.first_chunk.Statement.{statement}
 use Rattle.row_reader.proofs.feed.first_chunk.Tie as tie
-use Rattle.row_reader.proofs.feed.first_chunk.Reads as reads
-use Rattle.row_reader.proofs.feed.first_chunk.Lts as lts
-use Rattle.lines.proofs.keep.Reads as keep-reads
-use Rattle.lines.proofs.line_end.Reads as line-end-reads
-use Rattle.row_reader.proofs.chunk.fresh_at.Reads as fresh-at-reads
-use Rattle.row_reader.proofs.feed.begin_chunk.Reads as begin-chunk-reads
-use Rattle.row_reader.proofs.kind.kind_of.Reads as kind-of-reads
 
--- src/feed.rt:69:9
 line-end-requires : tie.Need-line-end-requires
 line-end-requires c κs = search needs
 
--- src/feed.rt:70:31
 slice-aggregate-keep : tie.Need-slice-aggregate-keep
-slice-aggregate-keep c = ?
+slice-aggregate-keep c = sym (length-take-le _ _ (found-within _ _ (c .before .before .line-end .ensures)))
 
--- src/feed.rt:70:9
 keep-requires : tie.Need-keep-requires
 keep-requires c κs = search needs
 
--- src/feed.rt:72:13
-fresh-at-requires : tie.Need-fresh-at-requires
-fresh-at-requires c κs = search needs
-
--- src/feed.rt:73:9
-same-length : tie.Need-same-length
-same-length c = search needs
-
--- src/feed.rt:73:9
-returns : tie.Need-returns
-returns c = ?
-
--- src/feed.rt:79:24
 slice-reshare-prefix-kind-of : tie.Need-slice-reshare-prefix-kind-of
 slice-reshare-prefix-kind-of c = search needs
 
--- src/feed.rt:79:24
 slice-aggregate-kind-of : tie.Need-slice-aggregate-kind-of
-slice-aggregate-kind-of c = ?
+slice-aggregate-kind-of c =
+    let k = c .before .before .before .before .keep in
+    sym (part-length _ _ _ _ _ (k .ensures) (c .before .before .before .before .before .before .before .before .before .before .before .pre .0) (k .kept .0))
 
--- src/feed.rt:79:9
 kind-of-requires : tie.Need-kind-of-requires
 kind-of-requires c κs = search needs
 
--- src/feed.rt:80:30
 add-begin-chunk : tie.Need-add-begin-chunk
-add-begin-chunk c = ?
+add-begin-chunk c = search needs
 
--- src/feed.rt:80:23
 sub-begin-chunk : tie.Need-sub-begin-chunk
-sub-begin-chunk c = ?
+sub-begin-chunk c = search needs
 
--- src/feed.rt:80:23
 part-begin-chunk-start : tie.Need-part-begin-chunk-start
-part-begin-chunk-start c = ?
+part-begin-chunk-start c = search needs
 
--- src/feed.rt:80:23
 part-begin-chunk-end : tie.Need-part-begin-chunk-end
 part-begin-chunk-end c = search needs
 
--- src/feed.rt:80:5
 begin-chunk-requires : tie.Need-begin-chunk-requires
 begin-chunk-requires c κs = search needs
 
--- src/feed.rt:58:1
+same-length : tie.Need-same-length
+same-length c = search needs
+
 same-length-2 : tie.Need-same-length-2
 same-length-2 c = search needs
 
--- src/feed.rt:58:1
+returns : tie.Need-returns
+returns c =
+    first-line-ends _ _ _ _ (c .before .before .before .before .before .before .before .before .before .before .before .before .before .before .before .before .before .before .line-end .ensures) _ _ (c .before .before .before .before .before .before .before .before .before .before .before .before .before .before .before .keep .ensures) (c .before .before .before .before .before .before .before .before .before .before .before .before .if1 .taken) _ (c .before .before .before .before .before .before .before .before .before .before .kind-of .ensures) _ _ _ _ _ (c .before .before .before .before .begin-chunk .ensures)
+
+fresh-at-requires : tie.Need-fresh-at-requires
+fresh-at-requires c κs = search needs
+
 same-length-3 : tie.Need-same-length-3
 same-length-3 c = search needs
 
--- src/feed.rt:58:1
 returns-2 : tie.Need-returns-2
-returns-2 c = ?
+returns-2 c =
+    first-line-waits _ _ _ _ (c .before .before .before .before .before .before .before .line-end .ensures) _ _ (c .before .before .before .before .keep .ensures) (c .before .if1 .left) _ _ _ (c .fresh-at .ensures) _
 
 pub first-chunk-spec : {M : Type 1} → statement M
 first-chunk-spec =
@@ -84,9 +70,6 @@ first-chunk-spec =
     line-end-requires
     slice-aggregate-keep
     keep-requires
-    fresh-at-requires
-    same-length
-    returns
     slice-reshare-prefix-kind-of
     slice-aggregate-kind-of
     kind-of-requires
@@ -95,6 +78,9 @@ first-chunk-spec =
     part-begin-chunk-start
     part-begin-chunk-end
     begin-chunk-requires
+    same-length
     same-length-2
+    returns
+    fresh-at-requires
     same-length-3
     returns-2)
