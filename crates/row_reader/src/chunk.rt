@@ -98,7 +98,7 @@ pub fn relief_chunk(
     had: usize,
 ) -> Fed
     requires { ⌜ (length (now line) ≡ 256) × (had ≤ 256) × (22 * (256 + length (now chunk)) ≤ length (now out)) × (length (now times) ≡ 512) × (length (now integrals) ≡ 512) ⌝ }
-    ensures { λ r. ⌜ (r .reader .phase ≡ phase.Relief) × FedAs (feed reliefAnswered (lentState (reader .integrator) (reader .blocks) (now (times .entry)) (now (integrals .entry))) (take had (now (line .entry))) (now (chunk .entry))) (lentState (r .reader .integrator) (r .reader .blocks) (now (times .exit)) (now (integrals .exit))) (now (line .exit)) (r .len) (now (out .exit)) (r .sent) ⌝ }
+    ensures { λ r. ⌜ (length (now (times .exit)) ≡ 512) × (length (now (integrals .exit)) ≡ 512) × (r .reader .phase ≡ phase.Relief) × FedAs (feed reliefAnswered (lentState (reader .integrator) (reader .blocks) (now (times .entry)) (now (integrals .entry))) (take had (now (line .entry))) (now (chunk .entry))) (lentState (r .reader .integrator) (r .reader .blocks) (now (times .exit)) (now (integrals .exit))) (now (line .exit)) (r .len) (now (out .exit)) (r .sent) ⌝ }
 {
     let integrator = reader.integrator;
     let blocks = reader.blocks;

@@ -38,7 +38,7 @@ fn turn(
     had: usize,
 ) -> Turned
     requires { ⌜ (length (now line) ≡ 256) × (had ≤ 256) × (22 * (256 + length (now buffer)) ≤ length (now out)) × (length (now times) ≡ 512) × (length (now integrals) ≡ 512) ⌝ }
-    ensures { λ r. ⌜ r .len ≤ 256 ⌝ }
+    ensures { λ r. ⌜ (r .len ≤ 256) × (length (now (times .exit)) ≡ 512) × (length (now (integrals .exit)) ≡ 512) ⌝ }
 {
     let got = libc::read(STDIN_FILENO, buffer);
     let n = io::count(got, buffer);
@@ -77,7 +77,7 @@ fn play(
     let mut len: usize = 0;
     let mut more = true;
     let mut turns = u64::MAX;
-    while more & (turns > 0) {
+    while turns > 0 && more {
         turns -= 1;
         let turned = turn(buffer, line, out, times, integrals, reader, len);
         let next = turned.reader;

@@ -1,5 +1,6 @@
 -- `finish` meets its contract, phase by phase. Assumes nothing.
 use mathlib.Core.Path.{refl}
+use native.Mathlib.Omega.{arith}
 use Rattle.row_reader.proofs.RowFeeding.{said-all, finished}
 use borrow.Author.Needs.{needs}
 use Rattle.row_reader.proofs.feed.finish.Statement.{statement}
@@ -36,28 +37,36 @@ same-length : tie.Need-same-length
 same-length c = search needs
 
 returns : tie.Need-returns
-returns c = finished _ _ (c .before .before .before .before .enum-told .given .1) _ _ _ _ (λ f r e. said-all _ _ _ _ _ (c .before .before .write-status-line .ensures))
+returns c =
+    let w = c .before .before .write-status-line .ensures in
+    (finished _ _ (c .before .before .before .before .enum-told .given .1) _ _ _ _ (λ f r e. said-all _ _ _ _ _ w), omega (arith, w .place))
 
 same-length-2 : tie.Need-same-length-2
 same-length-2 c = search needs
 
 returns-2 : tie.Need-returns-2
-returns-2 c = finished _ _ (c .before .before .before .before .enum-told2 .given .1) _ _ _ _ (λ f r e. c .before .before .last-line .ensures)
+returns-2 c =
+    let w = c .before .before .last-line .ensures in
+    (finished _ _ (c .before .before .before .before .enum-told2 .given .1) _ _ _ _ (λ f r e. w .0), w .1)
 
 same-length-3 : tie.Need-same-length-3
 same-length-3 c = search needs
 
 returns-3 : tie.Need-returns-3
-returns-3 c = finished _ _ (c .before .before .before .before .enum-told3 .given .1) _ _ _ _ (λ f r e. c .before .before .last-line2 .ensures)
+returns-3 c =
+    let w = c .before .before .last-line2 .ensures in
+    (finished _ _ (c .before .before .before .before .enum-told3 .given .1) _ _ _ _ (λ f r e. w .0), w .1)
 
 same-length-4 : tie.Need-same-length-4
 same-length-4 c = search needs
 
 returns-4 : tie.Need-returns-4
-returns-4 c = finished _ _ (c .before .before .before .before .enum-told4 .given .1) _ _ _ _ (λ f r e. c .before .before .last-line3 .ensures)
+returns-4 c =
+    let w = c .before .before .last-line3 .ensures in
+    (finished _ _ (c .before .before .before .before .enum-told4 .given .1) _ _ _ _ (λ f r e. w .0), w .1)
 
 returns-5 : tie.Need-returns-5
-returns-5 c = finished _ _ (c .enum-told5 .given .1) _ _ _ _ (λ f r e. record { bytes = refl; long = refl; place = refl })
+returns-5 c = (finished _ _ (c .enum-told5 .given .1) _ _ _ _ (λ f r e. record { bytes = refl; long = refl; place = refl }), omega arith)
 
 pub finish-spec : {M : Type 1} → statement M
 finish-spec =

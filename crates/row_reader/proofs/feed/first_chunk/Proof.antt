@@ -51,7 +51,8 @@ same-length-2 c = search needs
 
 returns : tie.Need-returns
 returns c =
-    first-line-ends _ _ _ _ (c .before .before .before .before .before .before .before .before .before .before .before .before .before .before .before .before .before .before .line-end .ensures) _ _ (c .before .before .before .before .before .before .before .before .before .before .before .before .before .before .before .keep .ensures) (c .before .before .before .before .before .before .before .before .before .before .before .before .if1 .taken) _ (c .before .before .before .before .before .before .before .before .before .before .kind-of .ensures) _ _ _ _ _ (c .before .before .before .before .begin-chunk .ensures)
+    let f = c .before .before .before .before .begin-chunk .ensures in
+    (f .0, f .1, first-line-ends _ _ _ _ (c .before .before .before .before .before .before .before .before .before .before .before .before .before .before .before .before .before .before .line-end .ensures) _ _ (c .before .before .before .before .before .before .before .before .before .before .before .before .before .before .before .keep .ensures) (c .before .before .before .before .before .before .before .before .before .before .before .before .if1 .taken) _ (c .before .before .before .before .before .before .before .before .before .before .kind-of .ensures) _ _ _ _ _ (f .2))
 
 fresh-at-requires : tie.Need-fresh-at-requires
 fresh-at-requires c κs = search needs
@@ -61,7 +62,7 @@ same-length-3 c = search needs
 
 returns-2 : tie.Need-returns-2
 returns-2 c =
-    first-line-waits _ _ _ _ (c .before .before .before .before .before .before .before .line-end .ensures) _ _ (c .before .before .before .before .keep .ensures) (c .before .if1 .left) _ _ _ (c .fresh-at .ensures) _
+    (c .before .before .before .before .before .before .before .before .before .before .before .pre .3, c .before .before .before .before .before .before .before .before .before .before .before .pre .4, first-line-waits _ _ _ _ (c .before .before .before .before .before .before .before .line-end .ensures) _ _ (c .before .before .before .before .keep .ensures) (c .before .if1 .left) _ _ _ (c .fresh-at .ensures) _)
 
 pub first-chunk-spec : {M : Type 1} → statement M
 first-chunk-spec =

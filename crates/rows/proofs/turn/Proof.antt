@@ -1,0 +1,83 @@
+-- `turn` keeps the lengths of what it is lent. Assumes nothing.
+use mathlib.Core.Path.{sym}
+use lib.Seq.{length-take-le}
+use borrow.Author.Needs.{needs}
+use Rattle.rows.proofs.turn.Statement.{statement}
+use Rattle.rows.proofs.turn.Tie as tie
+
+read-requires : tie.Need-read-requires
+read-requires c κs = search needs
+
+count-requires : tie.Need-count-requires
+count-requires c κs = search needs
+
+end-requires : tie.Need-end-requires
+end-requires c κs = search needs
+
+same-length : tie.Need-same-length
+same-length c = search needs
+
+same-length-2 : tie.Need-same-length-2
+same-length-2 c = search needs
+
+same-length-3 : tie.Need-same-length-3
+same-length-3 c = search needs
+
+returns : tie.Need-returns
+returns c = search needs
+
+slice-reshare-prefix-feed : tie.Need-slice-reshare-prefix-feed
+slice-reshare-prefix-feed c = search needs
+
+slice-aggregate-feed : tie.Need-slice-aggregate-feed
+slice-aggregate-feed c = search needs
+
+feed-requires : tie.Need-feed-requires
+feed-requires c κs = search needs
+
+slice-reshare-prefix-write-all : tie.Need-slice-reshare-prefix-write-all
+slice-reshare-prefix-write-all c = search needs
+
+slice-aggregate-write-all : tie.Need-slice-aggregate-write-all
+slice-aggregate-write-all c = sym (length-take-le _ _ (c .before .before .before .before .before .feed .ensures .2 .said-fits))
+
+write-all-requires : tie.Need-write-all-requires
+write-all-requires c κs = search needs
+
+stopped-requires : tie.Need-stopped-requires
+stopped-requires c κs = search needs
+
+same-length-4 : tie.Need-same-length-4
+same-length-4 c = c .before .before .before .before .before .before .before .before .before .before .before .before .before .before .before .before .before .before .before .read .kept .1 .0
+
+same-length-5 : tie.Need-same-length-5
+same-length-5 c = search needs
+
+same-length-6 : tie.Need-same-length-6
+same-length-6 c = search needs
+
+returns-2 : tie.Need-returns-2
+returns-2 c = search needs
+
+pub turn-spec : {M : Type 1} → statement M
+turn-spec =
+    tie.close
+    (tie.spec
+    read-requires
+    count-requires
+    end-requires
+    same-length
+    same-length-2
+    same-length-3
+    returns
+    slice-reshare-prefix-feed
+    slice-aggregate-feed
+    feed-requires
+    slice-reshare-prefix-write-all
+    slice-aggregate-write-all
+    write-all-requires
+    stopped-requires
+    same-length-4
+    same-length-5
+    same-length-6
+    returns-2)
