@@ -14,7 +14,7 @@ use Rattle.moving_average.specs.Integral.{onLine, integralAfter, integra
 use Rattle.moving_average.specs.State.{written}
 use Rattle.moving_average.specs.Lent.{leading}
 
--- ---- `put`: the first i entries are those from k on
+-- ---- `advance` and `put`: the first i entries are those from k on
 abbrev pub moved : ℕ → ℕ → List Float → List Float
 moved k i a = take i (drop k a) ++ drop i a
 
@@ -32,11 +32,17 @@ module _ (a : List Float) (k i : ℕ) (h : i + k < length a) where
       ap (set (moved k i a) i) (moved-read ∙ ap (λ (n : ℕ). getD a n nan) (add-comm i k) ∙ sym (getD-drop k a i nan))
       ∙ rw (add-one) (simp zero-add at (paste-suc a 0 (drop k a) i nan (omega arith) (omega (arith, length-drop k a))))
 
-pub moved-end : (a : List Float) (k j : ℕ) (x : Float) → k + j ≤ length a → j < length a → set (moved k j a) j x ≡ written (take j (drop k a) ++ (x ∷ [])) a
-unfolding written
-moved-end a k j x h l =
-    let e : length (take j (drop k a) ++ (x ∷ [])) ≡ suc j = length-append (take j (drop k a)) (x ∷ []) ∙ rw (front-length a k j h, add-one) in
-    rw (drop-cons a j nan l, set-at (take j (drop k a)) (getD a j nan) (drop (suc j) a) x j (front-length a k j h), e, append-assoc)
+module _ (a : List Float) (k j : ℕ) (h : k + j ≤ length a) where
+  pub moved-end : moved k j a ≡ written (take j (drop k a)) a
+  unfolding written
+  moved-end = rw (front-length a k j h)
+
+  -- x after them
+  pub put-end : (x : Float) → j < length a → set (written (take j (drop k a)) a) j x ≡ written (take j (drop k a) ++ (x ∷ [])) a
+  unfolding written
+  put-end x l =
+      let e : length (take j (drop k a) ++ (x ∷ [])) ≡ suc j = length-append (take j (drop k a)) (x ∷ []) ∙ rw (front-length a k j h, add-one) in
+      rw (front-length a k j h, drop-cons a j nan l, set-at (take j (drop k a)) (getD a j nan) (drop (suc j) a) x j (front-length a k j h), e, append-assoc)
 
 -- ---- `old_points`
 slice-end : (i n : ℕ) (l : List Float) → n ≤ i → slice i n l ≡ []

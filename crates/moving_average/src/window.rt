@@ -53,15 +53,42 @@ pub fn slot(n: usize, same: bool) -> usize
     if same { n - 1 } else { n }
 }
 
-// Helper: the j entries from k on come to the front, x follows them, and the entries past it stay.
-pub fn put(a: &mut [f64; 512], k: usize, j: usize, x: f64)
-    requires { ⌜ (k + j ≤ 512) × (j < 512) × (length (now a) ≡ 512) ⌝ }
-    ensures { λ _. ⌜ now (a .exit) ≡ written (take j (drop k (now (a .entry))) ++ (x ∷ [])) (now (a .entry)) ⌝ }
+// The j entries from 1 on come to the front, and the entries past them stay. The distance is fixed, so that this is one move of memory.
+fn advance_one(a: &mut [f64; 512], j: usize)
+    requires { ⌜ (1 + j ≤ 512) × (length (now a) ≡ 512) ⌝ }
+    ensures { λ _. ⌜ now (a .exit) ≡ written (take j (drop 1 (now (a .entry)))) (now (a .entry)) ⌝ }
 {
+    let mut i: usize = 0;
+    while i < j {
+        a[i] = a[i + 1];
+        i += 1;
+    }
+}
+
+// The j entries from k on come to the front, and the entries past them stay. Where rows come at equal steps k is 0 or 1.
+fn advance(a: &mut [f64; 512], k: usize, j: usize)
+    requires { ⌜ (k + j ≤ 512) × (length (now a) ≡ 512) ⌝ }
+    ensures { λ _. ⌜ now (a .exit) ≡ written (take j (drop k (now (a .entry)))) (now (a .entry)) ⌝ }
+{
+    if k == 0 {
+        return;
+    }
+    if k == 1 {
+        advance_one(a, j);
+        return;
+    }
     let mut i: usize = 0;
     while i < j {
         a[i] = a[i + k];
         i += 1;
     }
+}
+
+// Helper: the j entries from k on come to the front, x follows them, and the entries past it stay.
+pub fn put(a: &mut [f64; 512], k: usize, j: usize, x: f64)
+    requires { ⌜ (k + j ≤ 512) × (j < 512) × (length (now a) ≡ 512) ⌝ }
+    ensures { λ _. ⌜ now (a .exit) ≡ written (take j (drop k (now (a .entry))) ++ (x ∷ [])) (now (a .entry)) ⌝ }
+{
+    advance(a, k, j);
     a[j] = x;
 }

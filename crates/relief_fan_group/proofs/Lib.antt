@@ -6,3 +6,4 @@ pub mod Demand3
 pub mod Stages
 pub mod Alarms
 pub mod Sized
+pub mod Fours

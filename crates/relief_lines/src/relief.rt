@@ -10,6 +10,7 @@ ghost use Rattle.relief_lines.specs.Relief.{malformed, reliefLine, fourC
 use lines::keep;
 use lines::line_end;
 use moving_average::lent::Integrator;
+use relief_fan_group::anew::blocks_anew;
 use relief_fan_group::lent::relief_row_lent;
 use relief_fan_group::types::ReliefAnswer;
 use relief_fan_group::types::ReliefBlocks;
@@ -262,7 +263,7 @@ pub fn feed_relief(
         let following = answered.integrator;
         let next = answered.blocks;
         integrator = following;
-        blocks = next;
+        blocks = blocks_anew(next);
         sent = answered.at;
         len = 0;
         i = j + 1;

@@ -54,27 +54,35 @@ turn-relief-requires c κs =
       answer-fits reliefAnswered relief-cut relief-room _ _ _ _ _ _ _ _ _ _ h (s .pre .4) _ (l .inv .3) (t .loop-test .taken),
     )
 
+blocks-anew-requires : tie.Need-blocks-anew-requires Inv-loop μ-loop
+blocks-anew-requires c κs = search needs
+
 add-i : tie.Need-add-i Inv-loop μ-loop
 add-i c =
-    let t = c .before .before .before .before .before .before .before .before .before .before .before .before in
+    let t = c .before .before .before .before .before .before .before .before .before .before .before .before .before in
     omega (arith, t .loop-test .taken, t .before .before .before .before .before .before .good)
 
 line-end-requires-2 : tie.Need-line-end-requires-2 Inv-loop μ-loop
-line-end-requires-2 c κs = search needs
+line-end-requires-2 c κs =
+    let t = c .before .before .before .before .before .before .before .before .before .before .before .before .before in
+    omega (arith, t .loop-test .taken)
 
 loop-less : tie.Need-loop-less Inv-loop μ-loop
-loop-less c = search needs
+loop-less c =
+    let t = c .before .before .before .before .before .before .before .before .before .before .before .before .before .before in
+    omega (arith, t .before .loop .inv .3, t .loop-test .taken)
 
 loop-again : tie.Need-loop-again Inv-loop μ-loop
 loop-again c =
-    let t = c .before .before .before .before .before .before .before .before .before .before .before .before .before in
+    let t = c .before .before .before .before .before .before .before .before .before .before .before .before .before .before in
     let l = t .before .loop in
     let s = t .before .before .before .before .before .before in
-    let a = c .before .before .before .before .before .before .before .turn-relief in
+    let a = c .before .before .before .before .before .before .before .before .turn-relief in
     let z = answered-sized (lentState (l .integrator) (l .blocks) (l .times) (l .integrals)) _ (record { times = l .inv .0; integrals = l .inv .1 }) in (
       ap (λ (q : ReliefState). length (q .window .times)) (a .ensures .state) ∙ z .times,
       ap (λ (q : ReliefState). length (q .window .integrals)) (a .ensures .state) ∙ z .integrals,
-      turn reliefAnswered relief-cut relief-room _ _ _ _ _ _ _ _ _ _ (l .inv .2) (s .pre .4) _ (l .inv .3) (t .loop-test .taken) _ (a .kept .1 .1 .1 .1 .1 .0) _ _ _ (a .ensures) (a .kept .1 .1 .1 .1 .1 .1 .1 .0),
+      rw (c .before .blocks-anew .ensures)
+          (turn reliefAnswered relief-cut relief-room _ _ _ _ _ _ _ _ _ _ (l .inv .2) (s .pre .4) _ (l .inv .3) (t .loop-test .taken) _ (a .kept .1 .1 .1 .1 .1 .0) _ _ _ (a .ensures) (a .kept .1 .1 .1 .1 .1 .1 .1 .0)),
       c .line-end2 .ensures,
     )
 
@@ -118,6 +126,7 @@ feed-relief-spec =
     part-turn-relief-start
     part-turn-relief-end
     turn-relief-requires
+    blocks-anew-requires
     add-i
     line-end-requires-2
     loop-less
