@@ -41,16 +41,19 @@ partOf (Relief s) p = p
 partOf (Econ s) p = p
 partOf Stopped p = []
 
+-- what a chunk leaves, with that part
 abbrev pub settled : {F R E : Type 0} → Fed (Reader F R E) → Fed (Reader F R E)
 settled f = record { next = f .next; part = partOf (f .next) (f .part); said = f .said }
 
 module _ {F R E : Type 0} (freshF : F) (freshR : R) (freshE : E) (lineF : F → List ℕ → Answer F) (lineR : R → List ℕ → Answer R) (lineE : E → List ℕ → Answer E) where
+  -- the first line answered: nothing is said of a kind, and its rows start from a fresh state
   abbrev pub firstLine : Kind → Answer (Reader F R E)
   firstLine kind.Freeze = record { next = Freeze freshF; said = [] }
   firstLine kind.Relief = record { next = Relief freshR; said = [] }
   firstLine kind.Econ = record { next = Econ freshE; said = [] }
   firstLine kind.Unknown = record { next = Stopped; said = statusLine 6 }
 
+  -- a line answered
   unfoldable pub readerLine : Reader F R E → List ℕ → Answer (Reader F R E)
   readerLine First line = firstLine (kindOf line)
   readerLine (Freeze s) line = answerAs Freeze (lineF s line)
