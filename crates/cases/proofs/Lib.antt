@@ -1,5 +1,6 @@
--- The cases of each sequence, and the one fact that covers the table.
+-- The cases of each sequence, the one fact that covers the table, and the sentences about single numbers.
 pub mod EconomizerCases
 pub mod ReliefCases
 pub mod RowLinesExample
 pub mod Table
+pub mod Corners
