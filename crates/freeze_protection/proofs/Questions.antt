@@ -1,7 +1,7 @@
 -- The insurer's questions about freeze protection, answered over all lists of rows from the reading. Assumes nothing.
-use Prim.Native.Nat.{ℕ, zero, suc}
+use Prim.Native.Nat.{ℕ}
 use native.Mathlib.Omega.{arith}
-use mathlib.Core.Path.{_≡_, refl, sym, ap, _∙_}
+use mathlib.Core.Path.{_≡_, refl, sym, ap, subst, _∙_}
 use mathlib.Core.Bool.{Bool, true, false, not, _&&_, _||_, cond}
 use mathlib.Core.List.{List, [], _∷_, _++_}
 use lib.Dec.{T}
@@ -19,18 +19,17 @@ use Rattle.past.specs.Whole.{nextBy, accepted}
 use Rattle.past.proofs.Laws.{since-step, latched-step, rises-step}
 use Rattle.past.proofs.RunLaws.{passed-step}
 use Rattle.past.proofs.TurnLaws.{hold-law}
-use Rattle.past.proofs.Judged.{time-number}
 use Rattle.reals.specs.Constants.{plusZero}
 use Rattle.reals.specs.Seen.{seenAbove}
 use Rattle.reals.specs.Sign.{isSignNegative, isTime}
-use Rattle.reals.proofs.FloatOrder.{le→not-lt, le-refl}
+use Rattle.reals.proofs.FloatOrder.{le→not-lt}
 use Rattle.reals.proofs.Truth.{table1, is-true}
 use Rattle.freeze_protection.specs.declared.types.FreezeRow.{FreezeRow}
 use Rattle.freeze_protection.specs.Constants.{coldStage2, coldStage3, band, fiveMinutes, fifteenMinutes, hour}
 use Rattle.freeze_protection.specs.Verdict.{numbersFinite}
 use Rattle.freeze_protection.specs.Signals.{stageNumber}
 use Rattle.freeze_protection.specs.Reading.{Past, timeOfRow, supplyOf, cold, passedFor, resetRow, holding, endOfHour, recovery, stage, stage1Call, stage3Call, verdictOf}
-use Rattle.freeze_protection.specs.Questions.{isAccepted, taken, tripped, stageAfter, rowAt, seconds, hourDropped, mildRows, calling}
+use Rattle.freeze_protection.specs.Questions.{isAccepted, taken, tripped, stageAfter, rowAt, seconds, hourDropped, mildRows, newestTime, notFalling, calling}
 use Rattle.freeze_protection.proofs.Stages.{two-is}
 use Rattle.freeze_protection.proofs.Blocks.{cold-none, holding-none, hour-none, call3-none}
 
@@ -146,34 +145,52 @@ mild-start : Mild hourDropped
 unfolding holding endOfHour stage3Call cold hold values holdHere changes gaps turns passed latched rises since sinceWith some every lt le add sub round ofBits
 mild-start = record { released = refl; standing = refl; untripped = refl }
 
-mild-rows : (n : ℕ) (t : Float) → Mild (mildRows n t ++ hourDropped)
-mild-rows zero t = mild-start
-mild-rows (suc n) t = mild-on t (mildRows n t ++ hourDropped) (mild-rows n t)
+-- those four rows are accepted
+dropped-taken : accepted verdictOf hourDropped ≡ hourDropped
+unfolding accepted verdictAfter judge numbersFinite seenAbove isSignNegative lt round ofBits
+dropped-taken = refl
 
--- its rows are all accepted, for a time t that is not before 3900
+-- so it holds of the accepted ones among those rows and any mild rows after them, whatever their times
+mild-rows : (ts : List Float) → Mild (accepted verdictOf (mildRows ts ++ hourDropped))
+unfolding accepted
+mild-rows [] = subst Mild (sym dropped-taken) mild-start
+mild-rows (t ∷ ts) = by (verdictOf (accepted verdictOf (mildRows ts ++ hourDropped)) (mild t)) (mild-rows ts)
+  where
+    by : (v : Verdict) → Mild (accepted verdictOf (mildRows ts ++ hourDropped))
+        → Mild (nextBy v (mild t ∷ accepted verdictOf (mildRows ts ++ hourDropped)) (accepted verdictOf (mildRows ts ++ hourDropped)))
+    by Accepted m = mild-on t (accepted verdictOf (mildRows ts ++ hourDropped)) m
+    by (Refused r) m = m
+
+-- mild rows from 3900 s on are all accepted where their times do not fall
 mild-finite : (t : Float) → numbersFinite (mild t) ≡ (finite t)
 unfolding numbersFinite round ofBits
 mild-finite t = table1 (λ b. b && true && true && true && true && true && true && true && true && true) (λ b. b) tt (finite t)
 
-not-earlier : (n : ℕ) (t : Float) → T (isTime t) → T (le (seconds 3900) t) → seenAbove (lastTime timeOfRow (mildRows n t ++ hourDropped)) t ≡ false
+not-earlier : (t : Float) (ts : List Float) → T (le (newestTime ts) t) → seenAbove (lastTime timeOfRow (mildRows ts ++ hourDropped)) t ≡ false
 unfolding seenAbove
-not-earlier zero t i l = le→not-lt t (seconds 3900) l
-not-earlier (suc n) t i l = le→not-lt t t (le-refl t (time-number t i))
+not-earlier t [] l = le→not-lt t (seconds 3900) l
+not-earlier t (u ∷ ts) l = le→not-lt t u l
 
-mild-taken : (n : ℕ) (t : Float) → T (isTime t) → T (le (seconds 3900) t) → verdictOf (mildRows n t ++ hourDropped) (mild t) ≡ Accepted
+mild-taken : (t : Float) (ts : List Float) → T (isTime t) → T (le (newestTime ts) t) → verdictOf (mildRows ts ++ hourDropped) (mild t) ≡ Accepted
 unfolding verdictAfter judge
-mild-taken n t i l = rw (mild-finite t, is-true (finite t) (and-l (finite t) (not (isSignNegative t)) i), sign-off (isSignNegative t) (and-r (finite t) (not (isSignNegative t)) i), not-earlier n t i l) refl
+mild-taken t ts i l = rw (mild-finite t, is-true (finite t) (and-l (finite t) (not (isSignNegative t)) i), sign-off (isSignNegative t) (and-r (finite t) (not (isSignNegative t)) i), not-earlier t ts l) refl
   where
     sign-off : (b : Bool) → T (not b) → b ≡ false
     sign-off true h = absurd h
     sign-off false h = refl
 
-pub all-taken : (n : ℕ) (t : Float) → T (isTime t) → T (le (seconds 3900) t) → accepted verdictOf (mildRows n t ++ hourDropped) ≡ mildRows n t ++ hourDropped
+pub all-taken : (ts : List Float) → T (notFalling ts) → accepted verdictOf (mildRows ts ++ hourDropped) ≡ mildRows ts ++ hourDropped
 unfolding accepted
-all-taken zero t i l = unfold verdictAfter judge numbersFinite seenAbove isSignNegative lt round ofBits in refl
-all-taken (suc n) t i l = rw (all-taken n t i l, mild-taken n t i l) refl
+all-taken [] r = dropped-taken
+all-taken (t ∷ ts) r =
+    let i : T (isTime t) = and-l (isTime t) (le (newestTime ts) t && notFalling ts) r in
+    let q : T (le (newestTime ts) t && notFalling ts) = and-r (isTime t) (le (newestTime ts) t && notFalling ts) r in
+    rw (
+      all-taken ts (and-r (le (newestTime ts) t) (notFalling ts) q),
+      mild-taken t ts i (and-l (le (newestTime ts) t) (notFalling ts) q),
+    ) refl
 
--- for every number of mild rows and every time from 3900 s on, stage 2 still stands
-pub stage-2-stands : (n : ℕ) (t : Float) → T (isTime t) → T (le (seconds 3900) t) → stageAfter (mildRows n t ++ hourDropped) ≡ 2
+-- after the hour was dropped stage 2 still stands, however many mild rows come and whatever their times
+pub stage-2-stands : (ts : List Float) → stageAfter (mildRows ts ++ hourDropped) ≡ 2
 unfolding stageAfter stage stageNumber
-stage-2-stands n t i l = rw (all-taken n t i l, mild-rows n t .untripped, mild-rows n t .standing) refl
+stage-2-stands ts = rw (mild-rows ts .untripped, mild-rows ts .standing) refl

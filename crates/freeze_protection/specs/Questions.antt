@@ -1,9 +1,10 @@
 -- The words of the insurer's questions about freeze protection, over all lists of rows: l is the list of all rows so far, refused ones too, the newest first.
-use Prim.Native.Nat.{ℕ, zero, suc}
+use Prim.Native.Nat.{ℕ}
 use mathlib.Core.Bool.{Bool, true, false, not, _&&_}
 use mathlib.Core.List.{List, [], _∷_, _++_}
-use lib.Ieee.{Float, binary64, round}
+use lib.Ieee.{Float, binary64, le, round}
 use Rattle.reals.specs.Constants.{plusZero}
+use Rattle.reals.specs.Sign.{isTime}
 use Rattle.refusals.specs.declared.Verdict.{Verdict}
 use Rattle.refusals.specs.declared.Verdict.the-variants.{Accepted, Refused}
 use Rattle.past.specs.Past.{latched}
@@ -50,10 +51,19 @@ seconds n = round binary64 false n 1
 abbrev pub hourDropped : List FreezeRow
 hourDropped = rowAt (seconds 3900) 27800 ∷ rowAt (seconds 360) 27800 ∷ rowAt (seconds 300) 27600 ∷ rowAt (seconds 0) 27600 ∷ []
 
--- n mild rows at the time t, 278 K
-abbrev pub mildRows : ℕ → Float → List FreezeRow
-mildRows zero t = []
-mildRows (suc n) t = rowAt t 27800 ∷ mildRows n t
+-- mild rows, 278 K, one at each of these times, the newest first
+abbrev pub mildRows : List Float → List FreezeRow
+mildRows [] = []
+mildRows (t ∷ ts) = rowAt t 27800 ∷ mildRows ts
+
+-- times from 3900 s on that never fall, the newest first
+abbrev pub newestTime : List Float → Float
+newestTime [] = seconds 3900
+newestTime (t ∷ ts) = t
+
+abbrev pub notFalling : List Float → Bool
+notFalling [] = true
+notFalling (t ∷ ts) = isTime t && (le (newestTime ts) t && notFalling ts)
 
 -- the stage 3 call is true at each of the rows m after the past h
 abbrev pub calling : Past → Past → Bool
