@@ -50,6 +50,7 @@ fn delay_anew(block: TrueDelayOnInitState) -> TrueDelayOnInitState
     }
 }
 
+// The four one by one: from a loop over them the compiler does not see that the unused bytes are new.
 fn thresholds_anew(four: [ThresholdState; 4]) -> [ThresholdState; 4]
     ensures { λ r. ⌜ r ≡ four ⌝ }
 {
