@@ -50,6 +50,7 @@ fn delay_anew(block: TrueDelayOnInitState) -> TrueDelayOnInitState
     }
 }
 
+// The four one by one: from a loop over them the compiler does not see that the unused bytes are new.
 fn thresholds_anew(four: [ThresholdState; 4]) -> [ThresholdState; 4]
     ensures { λ r. ⌜ r ≡ four ⌝ }
 {
@@ -57,12 +58,11 @@ fn thresholds_anew(four: [ThresholdState; 4]) -> [ThresholdState; 4]
     let second = four[1];
     let third = four[2];
     let fourth = four[3];
-    [
-        threshold_anew(first),
-        threshold_anew(second),
-        threshold_anew(third),
-        threshold_anew(fourth),
-    ]
+    let first_anew = threshold_anew(first);
+    let second_anew = threshold_anew(second);
+    let third_anew = threshold_anew(third);
+    let fourth_anew = threshold_anew(fourth);
+    [first_anew, second_anew, third_anew, fourth_anew]
 }
 
 fn delays_anew(four: [TrueDelayOnInitState; 4]) -> [TrueDelayOnInitState; 4]
@@ -72,12 +72,11 @@ fn delays_anew(four: [TrueDelayOnInitState; 4]) -> [TrueDelayOnInitState; 4]
     let second = four[1];
     let third = four[2];
     let fourth = four[3];
-    [
-        delay_anew(first),
-        delay_anew(second),
-        delay_anew(third),
-        delay_anew(fourth),
-    ]
+    let first_anew = delay_anew(first);
+    let second_anew = delay_anew(second);
+    let third_anew = delay_anew(third);
+    let fourth_anew = delay_anew(fourth);
+    [first_anew, second_anew, third_anew, fourth_anew]
 }
 
 // Helper: the blocks made anew.
