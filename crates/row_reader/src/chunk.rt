@@ -40,7 +40,13 @@ pub fn fresh_at(phase: Phase) -> RowReader
 }
 
 // Helper. A chunk of freeze lines, from the freeze state of a reader.
-pub fn freeze_chunk(chunk: &[u8], line: &mut [u8], out: &mut [u8], reader: RowReader, had: usize) -> Fed
+pub fn freeze_chunk(
+    chunk: &[u8],
+    line: &mut [u8],
+    out: &mut [u8],
+    reader: RowReader,
+    had: usize,
+) -> Fed
     requires { ⌜ (length (now line) ≡ 256) × (had ≤ 256) × (22 * (256 + length (now chunk)) ≤ length (now out)) ⌝ }
     ensures { λ r. ⌜ (r .reader .phase ≡ phase.Freeze) × FedAs (feed freezeAnswered (reader .freeze) (take had (now (line .entry))) (now (chunk .entry))) (r .reader .freeze) (now (line .exit)) (r .len) (now (out .exit)) (r .sent) ⌝ }
 {
@@ -64,7 +70,13 @@ pub fn freeze_chunk(chunk: &[u8], line: &mut [u8], out: &mut [u8], reader: RowRe
 }
 
 // Helper. A chunk of economizer lines, from the economizer state of a reader.
-pub fn econ_chunk(chunk: &[u8], line: &mut [u8], out: &mut [u8], reader: RowReader, had: usize) -> Fed
+pub fn econ_chunk(
+    chunk: &[u8],
+    line: &mut [u8],
+    out: &mut [u8],
+    reader: RowReader,
+    had: usize,
+) -> Fed
     requires { ⌜ (length (now line) ≡ 256) × (had ≤ 256) × (22 * (256 + length (now chunk)) ≤ length (now out)) ⌝ }
     ensures { λ r. ⌜ (r .reader .phase ≡ phase.Econ) × FedAs (feed econAnswered (reader .econ) (take had (now (line .entry))) (now (chunk .entry))) (r .reader .econ) (now (line .exit)) (r .len) (now (out .exit)) (r .sent) ⌝ }
 {

@@ -14,9 +14,11 @@ economizer-fresh-requires c κs = search needs
 
 returns : tie.Need-returns
 unfolding freshAt
-returns c = rw (← c .before .before .freeze-fresh .ensures,
-    ← c .before .relief-blocks .ensures,
-    ← c .economizer-fresh .ensures)
+returns c = rw (
+  ← c .before .before .freeze-fresh .ensures,
+  ← c .before .relief-blocks .ensures,
+  ← c .economizer-fresh .ensures,
+)
 
 pub fresh-at-spec : {M : Type 1} → statement M
 fresh-at-spec =
