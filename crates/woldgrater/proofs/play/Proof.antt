@@ -1,0 +1,98 @@
+-- `play` meets its contract: the row file is one chunk, and the end is said after what was said of it. Assumes nothing.
+use mathlib.Core.Path.{refl, sym}
+use native.Mathlib.Omega.{arith}
+use Prim.Native.Nat.{_+_, _*_}
+use native.Mathlib.Nat.{le-of-eq}
+use lib.ListN.{length, drop, length-drop}
+use lib.Seq.{length-take-le}
+use borrow.Author.Needs.{needs}
+use Rattle.woldgrater.proofs.Playing.{end-starts, end-fits, played}
+use Rattle.woldgrater.proofs.play.Statement.{statement}
+use Rattle.woldgrater.proofs.play.Tie as tie
+
+fresh-at-requires : tie.Need-fresh-at-requires
+fresh-at-requires c κs = search needs
+
+add-answers : tie.Need-add-answers
+add-answers c = search needs
+
+mul-answers : tie.Need-mul-answers
+mul-answers c = search needs
+
+slice-aggregate-feed : tie.Need-slice-aggregate-feed
+slice-aggregate-feed c = search needs
+
+slice-relend-prefix-feed : tie.Need-slice-relend-prefix-feed
+slice-relend-prefix-feed c = search needs
+
+slice-aggregate-feed-2 : tie.Need-slice-aggregate-feed-2
+slice-aggregate-feed-2 c = sym (length-take-le _ (c .before .before .before .before .before .args .out .now) (omega (arith, c .before .before .before .before .before .pre)))
+
+feed-requires : tie.Need-feed-requires
+feed-requires c κs =
+    let at-start = c .before .before .before .before .before .before .before in
+    (refl, omega arith, le-of-eq (sym (length-take-le _ (at-start .args .out .now) (omega (arith, at-start .pre)))), refl, refl)
+
+slice-aggregate-finish : tie.Need-slice-aggregate-finish
+slice-aggregate-finish c = search needs
+
+sub-finish : tie.Need-sub-finish
+sub-finish c =
+    let at-feed = c .before .before .before .before .before in
+    let args = at-feed .before .before .before .before .before .before .before .before .args in
+    end-starts (at-feed .feed .last .1 .1 .0) (drop (22 * (256 + length (args .rows .now))) (args .out .now)) (at-feed .feed .result .sent) (at-feed .feed .ensures .2 .said-fits)
+
+part-finish-start : tie.Need-part-finish-start
+part-finish-start c =
+    let at-feed = c .before .before .before .before .before in
+    let args = at-feed .before .before .before .before .before .before .before .before .args in
+    end-starts (at-feed .feed .last .1 .1 .0) (drop (22 * (256 + length (args .rows .now))) (args .out .now)) (at-feed .feed .result .sent) (at-feed .feed .ensures .2 .said-fits)
+
+part-finish-end : tie.Need-part-finish-end
+part-finish-end c = search needs
+
+finish-requires : tie.Need-finish-requires
+finish-requires c κs =
+    let at-feed = c .before .before .before .before .before .before in
+    let at-start = at-feed .before .before .before .before .before .before .before .before in
+    let n = 22 * (256 + length (at-start .args .rows .now)) in
+    let more = drop n (at-start .args .out .now) in
+    (omega (arith, at-feed .feed .ensures .2 .part-fits, at-feed .feed .kept .1 .0), end-fits (at-feed .feed .last .1 .1 .0) more (at-feed .feed .result .sent) (at-feed .feed .ensures .2 .said-fits) (omega (arith, at-start .pre, length-drop n (at-start .args .out .now))))
+
+add-result : tie.Need-add-result
+add-result c =
+    let at-finish = c .before .before in
+    let at-feed = at-finish .before .before .before .before .before .before .before in
+    let at-start = at-feed .before .before .before .before .before .before .before .before in
+    let n = 22 * (256 + length (at-start .args .rows .now)) in
+    omega (arith, at-feed .feed .ensures .2 .said-fits, at-feed .feed .kept .1 .1 .0, at-finish .finish .ensures .1, at-start .pre, length-take-le n (at-start .args .out .now) (omega (arith, at-start .pre)), at-start .good)
+
+same-length : tie.Need-same-length
+same-length c = search needs
+
+returns : tie.Need-returns
+returns c =
+    let at-finish = c .before .before in
+    let at-feed = at-finish .before .before .before .before .before .before .before in
+    let at-fresh = at-feed .before .before .before .before .before in
+    played (at-fresh .fresh-at .result) (at-feed .feed .result .reader) (at-fresh .fresh-at .ensures) _ _ _ _ _ _ _ _ _ _ _ _ _ _ (at-feed .feed .ensures .2) (at-finish .finish .ensures .0)
+
+pub play-spec : {M : Type 1} → statement M
+play-spec =
+    tie.close
+    (tie.spec
+    fresh-at-requires
+    add-answers
+    mul-answers
+    slice-aggregate-feed
+    slice-relend-prefix-feed
+    slice-aggregate-feed-2
+    feed-requires
+    slice-aggregate-finish
+    sub-finish
+    part-finish-start
+    part-finish-end
+    finish-requires
+    add-result
+    same-length
+    returns)
