@@ -1,0 +1,2 @@
+-- What the exported functions cite.
+pub mod Play

@@ -1,0 +1,24 @@
+-- What a caller gets that hands in a whole row file (document 01, 'Row lines').
+use Prim.Native.Nat.{ℕ, _+_, _*_, _-_, _^_, _≤_, _<_}
+use mathlib.Core.Path.{_≡_}
+use mathlib.Core.List.{List}
+use lib.ListN.{length, take}
+use Rattle.row_reader.specs.Rows.{rowsOutput}
+
+-- the room asked of an output for the answers to n bytes: a status line for each of them, for each of the 256 that a line buffer holds, and for the end
+abbrev pub room : ℕ → ℕ
+room n = 22 * (257 + n)
+
+-- the answer to a caller whose output is too small
+abbrev pub refused : ℕ
+refused = 2 ^ 64 - 1
+
+-- the first r bytes of the output are those of the row file
+pub record Played (rows after : List ℕ) (r : ℕ) : Type 0 where
+  pub bytes : take r after ≡ rowsOutput rows
+  pub long : r ≡ length (rowsOutput rows)
+
+-- played where there is room, and else refused, with the output as it was
+pub record PlayedOrRefused (rows out after : List ℕ) (r : ℕ) : Type 0 where
+  pub played : room (length rows) ≤ length out → Played rows after r
+  pub kept : length out < room (length rows) → (r ≡ refused) × (after ≡ out)
