@@ -30,7 +30,9 @@ extern "C" {
  *
  * Where out_len is at least WOLDGRATER_ROOM(rows_len): gives the length of the output, and the output stands in the first bytes
  * of out, byte for byte what the program `rows` prints. What stands in the bytes after it is left open.
- * Else: gives WOLDGRATER_REFUSED, and out is as it was. */
+ * Else: gives WOLDGRATER_REFUSED, and out is as it was.
+ *
+ * No state is kept: a caller that gets its rows one at a time plays all of them again, and the last line is the newest row's. */
 size_t woldgrater_play(const uint8_t *rows, size_t rows_len, uint8_t *out, size_t out_len);
 
 #ifdef __cplusplus
