@@ -1,7 +1,7 @@
 -- Sentences of document 01 about single numbers: greater and lesser pass a NaN over and give the first of two equal operands; `clamp` and `f64::clamp`
 -- at a NaN. Assumes nothing.
 use mathlib.Core.Path.{_≡_, refl}
-use mathlib.Core.Bool.{true, false}
+use mathlib.Core.Bool.{false}
 use lib.Ieee.{Float, nan, ofBits, isNan, lt}
 use Rattle.reals.specs.Constants.{plusZero, one}
 use Rattle.reals.specs.Switch.{switch}

@@ -1,14 +1,13 @@
 -- Economizer lines (document 01, 'Row lines'): time first, then the record's fields in order; the answer is the status and the outputs in the order of
 -- `ControllerTrace`, or the status alone.
-use Prim.Native.Nat.{ℕ, _*_}
-use mathlib.Core.List.{List, [], _∷_, _++_}
-use mathlib.Core.Bool.{Bool, cond}
+use Prim.Native.Nat.{ℕ}
+use mathlib.Core.List.{List, [], _∷_}
+use mathlib.Core.Bool.{cond}
 use lib.Dec.{eqb}
 use lib.ListN.{length}
 use Rattle.row_lines.specs.Field.{unsignedColumn, yesNoColumn, realColumn, readSigned, readYesNo, readReal}
 use Rattle.row_lines.specs.Line.{columnOf, joined, endOfLine, statusLine, realThen, yesNoThen, signedThen}
 use Rattle.refusals.specs.Refusals.{refusalNumber}
-use Rattle.economizer_controller.specs.declared.types.EconomizerRow.{EconomizerRow}
 use Rattle.economizer_controller.specs.declared.types.EconomizerState.{EconomizerState}
 use Rattle.economizer_controller.specs.declared.types.EconomizerCommands.{EconomizerCommands}
 use Rattle.economizer_controller.specs.declared.types.EconomizerAnswer.{EconomizerAnswer}

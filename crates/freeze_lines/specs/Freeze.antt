@@ -1,14 +1,13 @@
 -- Freeze lines (document 01, 'Row lines'): time first, then the record's fields in order; the answer is the status and the outputs in the order of
 -- `Trace`, or the status alone.
-use Prim.Native.Nat.{ℕ, _*_}
-use mathlib.Core.List.{List, [], _∷_, _++_}
-use mathlib.Core.Bool.{Bool, cond}
+use Prim.Native.Nat.{ℕ}
+use mathlib.Core.List.{List, [], _∷_}
+use mathlib.Core.Bool.{cond}
 use lib.Dec.{eqb}
 use lib.ListN.{length}
 use Rattle.row_lines.specs.Field.{unsignedColumn, yesNoColumn, realColumn, readYesNo, readReal}
 use Rattle.row_lines.specs.Line.{columnOf, joined, endOfLine, statusLine, realThen, yesNoThen}
 use Rattle.refusals.specs.Refusals.{refusalNumber}
-use Rattle.freeze_protection.specs.declared.types.FreezeRow.{FreezeRow}
 use Rattle.freeze_protection.specs.declared.types.FreezeState.{FreezeState}
 use Rattle.freeze_protection.specs.declared.types.FreezeCommands.{FreezeCommands}
 use Rattle.freeze_protection.specs.declared.types.FreezeAnswer.{FreezeAnswer}

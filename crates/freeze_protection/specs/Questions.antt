@@ -10,7 +10,7 @@ use Rattle.refusals.specs.declared.Verdict.the-variants.{Accepted, Refused}
 use Rattle.past.specs.Past.{latched}
 use Rattle.past.specs.Whole.{accepted}
 use Rattle.freeze_protection.specs.declared.types.FreezeRow.{FreezeRow}
-use Rattle.freeze_protection.specs.Reading.{Past, resetRow, holding, endOfHour, stage, stage3Call, verdictOf}
+use Rattle.freeze_protection.specs.Reading.{Past, resetRow, stage, stage3Call, verdictOf}
 
 abbrev pub isAccepted : Verdict → Bool
 isAccepted Accepted = true

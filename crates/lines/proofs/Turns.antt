@@ -4,12 +4,12 @@ use mathlib.Core.Path.{_≡_, refl, sym, ap, subst, _∙_}
 use mathlib.Core.List.{List, [], _∷_, _++_, append-assoc, append-nil}
 use mathlib.Core.Bool.{Bool, true, false, cond, _||_}
 use native.Mathlib.Omega.{arith}
-use native.Mathlib.Numerals.{add-one, unary-clauses}
+use native.Mathlib.Numerals.{unary-clauses}
 use lib.ListN.{length, getD, take, drop, length-append, length-take, length-drop, drop-of-length-le}
 use lib.Seq.{take-all, drop-cons, drop-drop, length-take-le}
 use lib.Dec.{ltb, eqb}
 use borrow.Author.Tests.{ltb-true, ltb-false, lt-ltb, le-ltb, eqb-true, eqb-false, eq-eqb, ne-eqb}
-use Rattle.row_lines.specs.Column.{Wrote, over}
+use Rattle.row_lines.specs.Column.{over}
 use Rattle.row_lines.proofs.Writing.{take-over}
 use Rattle.lines.specs.Lines.{Answer, Fed, feed, cut, beforeNewline, Kept, Answered, FedAs}
 use Rattle.lines.proofs.Cutting.{after, feed-empty, feed-newline, feed-byte}

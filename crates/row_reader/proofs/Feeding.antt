@@ -1,18 +1,17 @@
 -- What a chunk leaves of the reader: lines of a kind, the first line, a part of it. For any three kinds. Assumes nothing.
 use Prim.Native.Nat.{ℕ, suc, _+_, _-_, _≤_, _<_}
 use mathlib.Core.Path.{_≡_, refl, sym, ap, _∙_}
-use mathlib.Core.List.{List, [], _∷_, _++_, append-nil}
+use mathlib.Core.List.{List, [], _++_, append-nil}
 use native.Mathlib.Omega.{arith}
 use lib.ListN.{length, take, drop, length-drop}
 use lib.Seq.{take-all}
 use Rattle.row_lines.specs.Line.{statusLine}
 use Rattle.lines.specs.Lines.{Answer, Fed, feed, cut, beforeNewline, Kept, FedAs}
-use Rattle.lines.proofs.Cutting.{after}
 use Rattle.lines.proofs.Turns.{newline-within, feed-line, feed-part}
 use Rattle.row_reader.specs.declared.kind.Kind.{Kind}
 use Rattle.row_reader.specs.declared.kind.Kind.the-variants as kind
 use Rattle.row_reader.specs.Kind.{kindOf}
-use Rattle.row_reader.specs.Reader.{Reader, First, Freeze, Relief, Econ, Stopped, settled, firstLine, readerLine, readerFeed, readerBegun}
+use Rattle.row_reader.specs.Reader.{Reader, First, Freeze, Relief, Econ, Stopped, settled, readerLine, readerFeed, readerBegun}
 use Rattle.row_reader.proofs.Reading.{kind-cut, freeze-lines, relief-lines, econ-lines, stopped-feed}
 
 -- the place of the first newline, looked for from the start of a chunk

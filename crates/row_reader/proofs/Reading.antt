@@ -1,5 +1,5 @@
 -- However the input is cut into chunks, the reader writes the output of the whole; and what it does with the lines of a kind. Assumes nothing.
-use Prim.Native.Nat.{ℕ, _+_, _≤_, _<_}
+use Prim.Native.Nat.{ℕ, _+_}
 use mathlib.Core.Path.{_≡_, refl, sym, ap, _∙_}
 use mathlib.Core.List.{List, [], _∷_, _++_}
 use native.Mathlib.Omega.{arith}
@@ -7,7 +7,6 @@ use lib.ListN.{length, take, length-take}
 use lib.Seq.{take-all}
 use Rattle.lines.specs.Lines.{Answer, Fed, linesAfter, restAfter, answers, feed, whole, cut, chunkwise, written}
 use Rattle.lines.proofs.Cutting.{at-most-or-above, written-is}
-use Rattle.row_reader.specs.declared.kind.Kind.{Kind}
 use Rattle.row_reader.specs.declared.kind.Kind.the-variants as kind
 use Rattle.row_reader.specs.Kind.{kindOf}
 use Rattle.row_reader.specs.Reader.{Reader, First, Freeze, Relief, Econ, Stopped, lastLine, readerEnding, answerAs, partOf, settled}

@@ -1,7 +1,7 @@
 -- What a chunk, and the end of the input, leave of the reader that the code carries. Assumes nothing.
 use Prim.Native.Nat.{ℕ, _+_, _-_, _≤_, _<_}
 use mathlib.Core.Path.{_≡_, refl, sym, ap, subst, _∙_}
-use mathlib.Core.List.{List, [], _∷_, _++_}
+use mathlib.Core.List.{List, [], _∷_}
 use native.Mathlib.Omega.{arith}
 use lib.ListN.{length, take, drop, replicate, length-take}
 use lib.Ieee.{Float}
@@ -14,7 +14,7 @@ use Rattle.moving_average.specs.State.{movingAverageNew}
 use Rattle.freeze_protection.specs.Step.{freezeFresh}
 use Rattle.economizer_controller.specs.Step.{economizerFresh}
 use Rattle.relief_fan_group.specs.declared.types.ReliefState.{ReliefState}
-use Rattle.relief_fan_group.specs.Step.{reliefBlocks, reliefFresh}
+use Rattle.relief_fan_group.specs.Step.{reliefFresh}
 use Rattle.relief_fan_group.specs.Lent.{lentState}
 use Rattle.freeze_lines.specs.Freeze.{freezeAnswered}
 use Rattle.relief_lines.specs.Relief.{reliefAnswered}

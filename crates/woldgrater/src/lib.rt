@@ -1,5 +1,4 @@
 // What firmware in C or Rust links (include/woldgrater.h). Callers prove nothing, so nothing is required of them but what their types say.
-ghost use mathlib.Core.Path.{_≡_};
 ghost use Prim.Native.Nat.{_≤_};
 ghost use lib.ListN.{length};
 ghost use Rattle.woldgrater.specs.Play.{room, Played, PlayedOrRefused};

@@ -1,4 +1,4 @@
-use mathlib.Core.Path.{_≡_, sym}
+use mathlib.Core.Path.{sym}
 use lib.ListN.{length-replicate}
 use Prim.Native.Nat.{ℕ}
 use Rattle.rows.proofs.output_buffer.Statement.{statement}

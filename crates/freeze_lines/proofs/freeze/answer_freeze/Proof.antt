@@ -1,6 +1,5 @@
 -- `answer_freeze` meets its contract: by what the line is read as. Assumes nothing.
-use Prim.Native.Nat.{ℕ}
-use mathlib.Core.Path.{_≡_, sym, ap, _∙_}
+use mathlib.Core.Path.{sym, ap, _∙_}
 use native.Mathlib.Omega.{arith}
 use Rattle.freeze_protection.specs.declared.types.FreezeStep.{FreezeStep}
 use Rattle.row_lines.proofs.Writing.{wrote-text}

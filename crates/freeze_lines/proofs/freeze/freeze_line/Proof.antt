@@ -1,5 +1,5 @@
 -- `freeze_line` meets its contract: at each return the columns read before it, and the one read last, say what the definition gives. Assumes nothing.
-use mathlib.Core.Path.{_≡_, sym, _∙_}
+use mathlib.Core.Path.{sym, _∙_}
 use native.Mathlib.Omega.{arith}
 use borrow.Author.Tests.{eq-eqb, ne-eqb}
 use Rattle.freeze_lines.specs.Freeze.{freezeLine}

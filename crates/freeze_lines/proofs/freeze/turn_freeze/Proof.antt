@@ -1,5 +1,5 @@
 -- `turn_freeze` meets its contract: by whether anything was kept. Assumes nothing.
-use mathlib.Core.Path.{_≡_, sym}
+use mathlib.Core.Path.{sym}
 use native.Mathlib.Omega.{arith}
 use Rattle.lines.proofs.Turns.{part-length, kept-length, as-whole, as-kept}
 use Rattle.freeze_lines.specs.Freeze.{freezeAnswered}

@@ -1,5 +1,5 @@
 -- `turn_relief` meets its contract: a line answered where it stands, or from what is kept of it. Assumes nothing.
-use mathlib.Core.Path.{_≡_, sym}
+use mathlib.Core.Path.{sym}
 use native.Mathlib.Omega.{arith}
 use Rattle.lines.proofs.Turns.{part-length, kept-length, as-kept}
 use Rattle.relief_lines.specs.Relief.{reliefAnswered}
