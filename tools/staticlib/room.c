@@ -1,13 +1,23 @@
-/* Tries woldgrater_play with too little room and with just enough; prints the name of each check that fails and ends with their number. */
+/* Tries the library for firmware with too little room and with just enough, and on a state of any words; prints the name of each
+ * check that fails and ends with their number. */
 #include <stdio.h>
 #include <string.h>
 
 #include "woldgrater.h"
 
 static const uint8_t rows[] = "econ\n\n\n";
-enum { LEN = sizeof rows - 1 };
+static const char answers[] = "                    5\n                    5\n";
+enum { LEN = sizeof rows - 1, ANSWERS = sizeof answers - 1 };
 
-static uint8_t out[WOLDGRATER_ROOM(LEN)];
+/* All that is lent to be written. */
+static struct {
+    uint8_t out[WOLDGRATER_ROOM(LEN)];
+    double times[WOLDGRATER_WINDOW];
+    double integrals[WOLDGRATER_WINDOW];
+    uint8_t line[WOLDGRATER_LINE];
+    uint8_t beyond[64];
+} lent, before;
+
 static int failed;
 
 static void expect(const char *what, int held)
@@ -21,20 +31,72 @@ static void expect(const char *what, int held)
 /* Nothing was written. */
 static int untouched(void)
 {
-    for (size_t i = 0; i < sizeof out; i++)
-        if (out[i] != 0xA5)
-            return 0;
-    return 1;
+    return memcmp(&lent, &before, sizeof lent) == 0;
+}
+
+static struct woldgrater_fed feed(size_t room, struct woldgrater_state state)
+{
+    return woldgrater_feed(rows, LEN, lent.out, room, lent.line, lent.times, lent.integrals, state);
+}
+
+static void try_play(void)
+{
+    expect("play: a byte too few is refused", woldgrater_play(rows, LEN, lent.out, sizeof lent.out - 1) == WOLDGRATER_REFUSED && untouched());
+    expect("play: no room is refused", woldgrater_play(rows, LEN, lent.out, 0) == WOLDGRATER_REFUSED && untouched());
+    expect("play: room for no byte of rows is refused", woldgrater_play(rows, LEN, lent.out, WOLDGRATER_ROOM(0)) == WOLDGRATER_REFUSED && untouched());
+    expect("play: the room asked is enough", woldgrater_play(rows, LEN, lent.out, sizeof lent.out) == ANSWERS);
+    expect("play: two empty lines are refused with 5", memcmp(lent.out, answers, ANSWERS) == 0);
+}
+
+static void try_feed(void)
+{
+    static const size_t small[] = { 0, WOLDGRATER_ROOM(0), sizeof lent.out - 1 };
+    struct woldgrater_state state = woldgrater_start();
+    struct woldgrater_fed fed;
+    for (size_t i = 0; i < sizeof small / sizeof *small; i++) {
+        fed = feed(small[i], state);
+        expect("feed: too little room is refused", fed.sent == WOLDGRATER_REFUSED && untouched());
+        expect("feed: the state of a refused call is as it was", memcmp(&fed.state, &state, sizeof state) == 0);
+    }
+    fed = feed(sizeof lent.out, state);
+    expect("feed: the room asked is enough", fed.sent == ANSWERS);
+    expect("feed: two empty lines are refused with 5", memcmp(lent.out, answers, ANSWERS) == 0);
+    expect("feed: another kind's arrays are as they were", memcmp(lent.times, before.times, sizeof lent.times + sizeof lent.integrals) == 0);
+}
+
+static void try_finish(void)
+{
+    static const char no_kind[] = "                    6\n";
+    struct woldgrater_state state = woldgrater_start();
+    expect("finish: a byte too few is refused", woldgrater_finish(lent.out, WOLDGRATER_ROOM_FINISH - 1, lent.line, state) == WOLDGRATER_REFUSED && untouched());
+    expect("finish: the room asked is enough", woldgrater_finish(lent.out, WOLDGRATER_ROOM_FINISH, lent.line, state) == sizeof no_kind - 1);
+    expect("finish: an empty input is refused with 6", memcmp(lent.out, no_kind, sizeof no_kind - 1) == 0);
+}
+
+/* Words that no call gave are read as some state: nothing else is written, and what is sent fits. */
+static void try_any_state(void)
+{
+    struct woldgrater_fed fed;
+    for (unsigned phase = 0; phase < 6; phase++)
+        for (unsigned byte = 0; byte < 256; byte++) {
+            memset(&fed, (int)byte, sizeof fed);
+            fed.state.words[0] = phase;
+            fed = feed(sizeof lent.out, fed.state);
+            expect("feed: any words are a state", fed.sent <= sizeof lent.out && fed.state.words[263] <= WOLDGRATER_LINE);
+            memset(&fed, (int)byte, sizeof fed);
+            fed.state.words[0] = phase;
+            expect("finish: any words are a state", woldgrater_finish(lent.out, WOLDGRATER_ROOM_FINISH, lent.line, fed.state) <= WOLDGRATER_ROOM_FINISH);
+        }
+    expect("nothing is written beyond", memcmp(lent.beyond, before.beyond, sizeof lent.beyond) == 0);
 }
 
 int main(void)
 {
-    static const char answers[] = "                    5\n                    5\n";
-    memset(out, 0xA5, sizeof out);
-    expect("a byte too few is refused", woldgrater_play(rows, LEN, out, sizeof out - 1) == WOLDGRATER_REFUSED && untouched());
-    expect("no room is refused", woldgrater_play(rows, LEN, out, 0) == WOLDGRATER_REFUSED && untouched());
-    expect("room for no byte of rows is refused", woldgrater_play(rows, LEN, out, WOLDGRATER_ROOM(0)) == WOLDGRATER_REFUSED && untouched());
-    expect("the room asked is enough", woldgrater_play(rows, LEN, out, sizeof out) == sizeof answers - 1);
-    expect("two empty lines are refused with 5", memcmp(out, answers, sizeof answers - 1) == 0);
+    void (*const tries[])(void) = { try_play, try_feed, try_finish, try_any_state };
+    memset(&before, 0xA5, sizeof before);
+    for (size_t i = 0; i < sizeof tries / sizeof *tries; i++) {
+        lent = before;
+        tries[i]();
+    }
     return failed;
 }

@@ -10,7 +10,7 @@ use lib.Dec.{eqb}
 use borrow.Author.Tests.{eqb-true, eqb-false, ne-eqb}
 use Rattle.row_lines.proofs.Inverse.{length-column}
 use Rattle.row_lines.proofs.Lines.{length-status}
-use Rattle.lines.specs.Lines.{Answer, cut}
+use Rattle.lines.specs.Lines.{cut}
 use Rattle.lines.proofs.Cutting.{at-most-or-above}
 use Rattle.refusals.specs.Refusals.{refusalNumber}
 use Rattle.freeze_protection.specs.declared.types.FreezeRow.{FreezeRow}

@@ -1,10 +1,10 @@
 -- Freeze protection's state as a function of the past: each block is the reading that document 01 gives it, and the two loops are stepped over the rows.
 -- One row further the signals are the readings, and the next state is the state of the longer past. Assumes nothing.
 use mathlib.Core.Path.{_≡_, refl}
-use mathlib.Core.Bool.{Bool, true, false, not, _&&_, _||_}
-use mathlib.Core.List.{List, [], _∷_}
+use mathlib.Core.Bool.{false, _||_}
+use mathlib.Core.List.{[], _∷_}
 use lib.Dec.{T}
-use lib.Ieee.{Float, binary64, add, sub, lt, le, eq, ofBits, isNan}
+use lib.Ieee.{Float, binary64, add, sub, lt, le, ofBits, isNan}
 use Rattle.reals.specs.Constants.{plusZero}
 use Rattle.reals.specs.Order.{greater}
 use Rattle.reals.specs.Switch.{switch}
@@ -14,16 +14,14 @@ use Rattle.reals.specs.declared.pid.PidState.{PidState}
 use Rattle.reals.specs.Threshold.{thresholdOutput}
 use Rattle.reals.specs.Pid.{pidNew, pidOutput, pidUpdate}
 use Rattle.logical.specs.Edge.{edgeOutput}
-use Rattle.logical.specs.HeldTimer.{heldTimerOutput}
 use Rattle.logical.specs.TrueFalseHold.{trueFalseHoldOutput}
-use Rattle.past.specs.Past.{since, rises, latched}
+use Rattle.past.specs.Past.{rises, latched}
 use Rattle.past.specs.Runs.{timeOf}
 use Rattle.past.specs.Acceptance.{lastTime}
 use Rattle.past.specs.Stepped.{stepped, inOrder}
 use Rattle.past.proofs.Laws.{since-none}
 use Rattle.past.proofs.RunLaws.{passed-none}
 use Rattle.past.proofs.TurnLaws.{hold-none}
-use Rattle.past.proofs.Stepped.{seenOf}
 use Rattle.past.proofs.LevelReading.{thresholdOf, threshold-new, threshold-output, threshold-update}
 use Rattle.past.proofs.LatchReading.{edgeOf, edge-new, edge-output, edge-update, latchOf, latch-new, latch-output, latch-update}
 use Rattle.past.proofs.TimerReading.{heldTimerOf, held-timer-new, held-timer-output, held-timer-update}

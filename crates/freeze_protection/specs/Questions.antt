@@ -1,6 +1,6 @@
 -- The words of the insurer's questions about freeze protection, over all lists of rows: l is the list of all rows so far, refused ones too, the newest first.
 use Prim.Native.Nat.{ℕ}
-use mathlib.Core.Bool.{Bool, true, false, not, _&&_}
+use mathlib.Core.Bool.{Bool, true, false, _&&_}
 use mathlib.Core.List.{List, [], _∷_, _++_}
 use lib.Ieee.{Float, binary64, le, round}
 use Rattle.reals.specs.Constants.{plusZero}

@@ -12,7 +12,6 @@ use Rattle.refusals.specs.declared.Verdict.the-variants.{Accepted, Refused}
 use Rattle.freeze_protection.specs.declared.types.FreezeRow.{FreezeRow}
 use Rattle.freeze_protection.specs.declared.types.FreezeState.{FreezeState}
 use Rattle.freeze_protection.specs.declared.types.FreezeSignals.{FreezeSignals}
-use Rattle.freeze_protection.specs.declared.types.FreezeAnswer.{FreezeAnswer}
 use Rattle.freeze_protection.specs.declared.types.FreezeAnswer.the-variants as Answer
 use Rattle.freeze_protection.specs.declared.types.FreezeStep.{FreezeStep}
 use Rattle.freeze_protection.specs.Constants.{coldStage1, coldStage2, coldStage3, warmLevel, band, fiveMinutes, fifteenMinutes, hour, stage1Setpoint, stage3Setpoint}

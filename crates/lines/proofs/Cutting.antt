@@ -1,11 +1,11 @@
 -- However a stream is cut into chunks, what is written is what the whole stream gives. For any state, and any answer to a line that bytes past the
 -- 256th do not change. Assumes nothing.
-use Prim.Native.Nat.{ℕ, zero, suc, _+_, _≤_, _<_}
+use Prim.Native.Nat.{ℕ, _+_, _≤_, _<_}
 use mathlib.Core.Path.{_≡_, refl, sym, ap, _∙_}
-use mathlib.Core.List.{List, [], _∷_, _++_, append-assoc, append-nil}
+use mathlib.Core.List.{List, [], _∷_, _++_, append-assoc}
 use mathlib.Core.Bool.{Bool, true, false, cond}
 use native.Mathlib.Omega.{arith}
-use lib.ListN.{length, take, length-append, length-take}
+use lib.ListN.{length, length-take}
 use lib.Seq.{take-all, take-append-le, take-take}
 use lib.Dec.{leb, eqb}
 use borrow.Author.Tests.{leb-true, leb-false, eqb-true, eqb-false, eq-eqb, ne-eqb}

@@ -2,7 +2,7 @@
 use mathlib.Core.Path.{_≡_, refl}
 use mathlib.Core.Bool.{Bool, true, false}
 use mathlib.Core.List.{List, [], _∷_}
-use lib.Ieee.{Float, binary64, round, ofBits, sub, add, le, isNan}
+use lib.Ieee.{Float, round, ofBits, sub, add, le, isNan}
 use Rattle.reals.specs.Seen.{seenNever, seenElapsed, seenGap}
 use Rattle.reals.specs.Switch.{switch}
 use Rattle.reals.specs.Order.{greater}

@@ -1,16 +1,14 @@
 -- The economizer's delay: true at once on row 0, later when the gaps since its input's rise add up to the delay, and it reads as `delayed`. Assumes nothing.
 use mathlib.Core.Path.{_≡_, refl}
-use mathlib.Core.Bool.{Bool, true, false, not, _&&_, _||_, cond}
+use mathlib.Core.Bool.{Bool, true, false, _&&_, _||_, cond}
 use mathlib.Core.List.{List, [], _∷_}
 use lib.Dec.{T}
 use lib.Ieee.{Float, binary64, add, sub, le}
 use Rattle.reals.specs.Constants.{plusZero}
 use Rattle.reals.specs.Seen.{seenNever, seenGap}
 use Rattle.reals.specs.Switch.{switch}
-use Rattle.reals.specs.declared.seen.Seen.the-variants.{Never, At}
 use Rattle.logical.specs.declared.true_delay.TrueDelayState.{TrueDelayState}
 use Rattle.logical.specs.TrueDelay.{trueDelayNew, trueDelayNextTimer, trueDelayOutput, trueDelayUpdate}
-use Rattle.past.specs.Past.{row0}
 use Rattle.past.specs.Runs.{timeOf, delayed}
 use Rattle.past.specs.Stepped.{stepped, inOrder}
 use Rattle.past.proofs.RunLaws.{runGaps, delayed-step, delayed-none}

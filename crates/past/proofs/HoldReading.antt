@@ -1,5 +1,4 @@
 -- The hold, of freeze and of the economizer: its timer is the sum of the gaps since row 0 or its last change, and it reads as `hold`. Assumes nothing.
-use Prim.Native.Nat.{ℕ, suc}
 use mathlib.Core.Path.{_≡_, refl, ap, _∙_}
 use mathlib.Core.Bool.{Bool, true, false, not, _&&_, _||_, Bool·beq, cond}
 use mathlib.Core.List.{List, [], _∷_}

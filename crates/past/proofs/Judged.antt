@@ -5,7 +5,7 @@ use mathlib.Core.Path.{_≡_, refl}
 use mathlib.Core.Bool.{Bool, true, false, not, _&&_, cond}
 use mathlib.Core.List.{List, [], _∷_}
 use lib.Dec.{T}
-use lib.Ieee.{Float, nan, inf, fin, lt, le, isNan}
+use lib.Ieee.{Float, nan, inf, fin, isNan}
 use lib.Ieee.Fits.{and-i}
 use lib.Ieee.Scale.{finite}
 use Rattle.reals.specs.Sign.{isTime, isSignNegative}
@@ -13,7 +13,6 @@ use Rattle.reals.specs.Seen.{seenAbove}
 use Rattle.reals.proofs.FloatOrder.{not-lt→le}
 use Rattle.refusals.specs.declared.Refusal.{Refusal}
 use Rattle.refusals.specs.declared.Refusal.the-variants.{NotFinite, NegativeTime, FallingTime}
-use Rattle.refusals.specs.declared.Verdict.{Verdict}
 use Rattle.refusals.specs.declared.Verdict.the-variants.{Accepted, Refused}
 use Rattle.refusals.specs.Refusals.{judge}
 use Rattle.past.specs.Stepped.{notBefore, inOrder}

@@ -1,6 +1,6 @@
 -- The edge, the latch and pre: rises, latched, and the row before. Assumes nothing.
 use mathlib.Core.Path.{_≡_, refl, sym}
-use mathlib.Core.Bool.{Bool, false, not, _&&_}
+use mathlib.Core.Bool.{Bool, false}
 use mathlib.Core.List.{List, [], _∷_}
 use Rattle.logical.specs.declared.edge.EdgeState.{EdgeState}
 use Rattle.logical.specs.declared.latch.LatchState.{LatchState}

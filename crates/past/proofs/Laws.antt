@@ -5,7 +5,7 @@ use mathlib.Core.Bool.{Bool, true, false, not, _&&_, _||_}
 use mathlib.Core.List.{List, [], _∷_}
 use lib.ListN.{length, drop}
 use Rattle.reals.proofs.Truth.{table1, table2, table4, table5}
-use Rattle.past.specs.Past.{some, every, sinceWith, since, row0, rises, latched}
+use Rattle.past.specs.Past.{some, every, sinceWith, since, rises, latched}
 
 -- ---- a condition that does not turn on the number comes out of `some`
 pull : (n : ℕ) (a c f : ℕ → Bool) (b : Bool) → some n (λ k. a k && (b && c k) && f k) ≡ (b && some n (λ k. a k && c k && f k))

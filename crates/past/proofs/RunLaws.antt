@@ -1,5 +1,5 @@
 -- Runs of a past, one row further: what `passed`, `running` and `delayed` say of the start of the run is said of one time and one gap sum. Assumes nothing.
-use Prim.Native.Nat.{ℕ, zero, suc, _-_}
+use Prim.Native.Nat.{ℕ, suc, _-_}
 use native.Mathlib.Nat.{suc-sub-suc, sub-zero, sub-self}
 use mathlib.Core.Path.{_≡_, refl, sym, ap, ap₂, _∙_, fun-ext}
 use mathlib.Core.Bool.{Bool, true, false, not, _&&_, _||_, cond}
@@ -9,7 +9,7 @@ use lib.Ieee.{Float, binary64, add, sub, le}
 use Rattle.reals.specs.Constants.{plusZero}
 use Rattle.reals.proofs.Truth.{table1, table3, table5}
 use Rattle.past.specs.Past.{some, sinceWith, row0, rises}
-use Rattle.past.specs.Runs.{timeOf, sinceTime, passed, running, gaps, reached, delayed}
+use Rattle.past.specs.Runs.{timeOf, passed, running, gaps, reached, delayed}
 use Rattle.past.proofs.Laws.{sinceWith-step, sinceWith-none, sinceWith-or, rises-step}
 
 module _ {A : Type 0} (time : A → Float) (u : List A → Bool) (e : u [] ≡ false) where

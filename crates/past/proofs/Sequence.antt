@@ -32,7 +32,7 @@ module _ {R : Type 0} (time : R → Float) (allFinite : R → Bool) (time-finite
   last-seen (x ∷ h) = refl
 
   -- an accepted row keeps the times in order
-  in-order : (x : R) (h : List R) → T (inOrder time h) → verdictAfter time allFinite h x ≡ Accepted → T (inOrder time (x ∷ h))
+  pub in-order : (x : R) (h : List R) → T (inOrder time h) → verdictAfter time allFinite h x ≡ Accepted → T (inOrder time (x ∷ h))
   unfolding verdictAfter
   in-order x h o e = judged-in-order time allFinite time-finite x h o (rw (last-seen h) at e)
 

@@ -1,6 +1,6 @@
 -- A block whose state is a function of the past at its start and one row further is so after every list. Assumes nothing.
-use mathlib.Core.Path.{_≡_, refl}
-use mathlib.Core.Bool.{Bool, true, false, not, _&&_}
+use mathlib.Core.Path.{_≡_}
+use mathlib.Core.Bool.{not, _&&_}
 use mathlib.Core.List.{List, [], _∷_}
 use lib.Dec.{T}
 use lib.Ieee.{Float, binary64, sub, le}

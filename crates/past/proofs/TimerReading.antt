@@ -13,7 +13,6 @@ use Rattle.reals.specs.declared.seen.Seen.{Seen}
 use Rattle.reals.specs.declared.seen.Seen.the-variants.{Never, At}
 use Rattle.reals.proofs.Truth.{table2}
 use Rattle.reals.proofs.Times.{self-gap}
-use Rattle.logical.specs.declared.timer.TimerOutput.{TimerOutput}
 use Rattle.logical.specs.declared.held_timer.HeldTimerState.{HeldTimerState}
 use Rattle.logical.specs.declared.present_timer.PresentTimerState.{PresentTimerState}
 use Rattle.logical.specs.declared.true_delay_on_init.TrueDelayOnInitState.{TrueDelayOnInitState}

@@ -1,13 +1,13 @@
 -- The hold and the pulse in words of readings alone: where each turns, and what it takes there. Assumes nothing.
 use Prim.Native.Nat.{ℕ, zero, suc}
 use mathlib.Core.Path.{_≡_, refl, ap, _∙_, fun-ext}
-use mathlib.Core.Bool.{Bool, true, false, not, _&&_, _||_, Bool·beq, cond}
+use mathlib.Core.Bool.{Bool, false, not, _&&_, _||_, Bool·beq, cond}
 use mathlib.Core.List.{List, [], _∷_}
 use lib.ListN.{length, drop}
 use lib.Ieee.{Float, le}
 use Rattle.past.specs.Past.{some, every, sinceWith, row0, rises}
 use Rattle.past.specs.Runs.{sinceTime, gaps, running}
-use Rattle.past.specs.Turns.{values, newest, turns, changes, holdHere, hold, waits, pulseHere, pulse}
+use Rattle.past.specs.Turns.{values, turns, changes, holdHere, hold, waits, pulseHere, pulse}
 
 -- ---- the values at the earlier rows are the values of the earlier pasts
 values-drop : {A : Type 0} (f : List A → List Bool → Bool) (k : ℕ) (h : List A) → drop k (values f h) ≡ values f (drop k h)

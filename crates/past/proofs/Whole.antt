@@ -2,9 +2,9 @@
 -- the list alone tells there. Assumes nothing.
 use Prim.Native.Nat.{ℕ, zero, suc, _<_}
 use native.Mathlib.Nat.{not-suc-le-zero, le-of-suc-le-suc}
-use mathlib.Core.Path.{_≡_, refl, ap, _∙_}
+use mathlib.Core.Path.{_≡_, refl, _∙_}
 use mathlib.Core.Bool.{Bool}
-use mathlib.Core.List.{List, [], _∷_, reverse, reverseAux}
+use mathlib.Core.List.{List, [], _∷_, reverseAux}
 use lib.Dec.{T}
 use lib.ListN.{length, getD, take}
 use Rattle.refusals.specs.declared.Verdict.{Verdict}

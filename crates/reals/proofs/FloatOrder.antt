@@ -5,10 +5,10 @@ use native.Mathlib.Omega.{arith}
 use mathlib.Core.Path.{_≡_, refl, sym}
 use mathlib.Core.Logic.{inl, inr}
 use mathlib.Core.Bool.{Bool, true, false, not, _&&_, _||_, true≢false}
-use lib.Dec.{T, ltb, eqb, ltb→lt, lt→ltb, eqb→eq, eqb-refl, T-not, not-T}
+use lib.Dec.{T, ltb, eqb, ltb→lt, lt→ltb, eqb→eq, eqb-refl, not-T}
 use lib.Ieee.{Float, nan, inf, fin, up, down, below, level, lt, eq, le, ne, isNan}
 use lib.Ieee.Fits.{down-pos, and-i, and-l, and-r, eq→eqb}
-use Rattle.reals.proofs.Truth.{is-true, is-false, holds, or-l, or-r, either, same, opposite, table1}
+use Rattle.reals.proofs.Truth.{is-true, or-l, or-r, either, same, opposite, table1}
 
 -- ---- ±a < ±b and ±a ≤ ±b, as facts of natural numbers
 abbrev Below : Bool → ℕ → Bool → ℕ → Type 0

@@ -1,13 +1,13 @@
 -- Rounding: it keeps the sign, it turns about 0, and a value that binary64 holds it leaves as it is. Assumes nothing.
 use Prim.Native.Nat.{ℕ, zero, suc, _+_, _-_, _*_, _/_, _%_, _^_, _≤_, _<_, suc-le-suc}
-use native.Mathlib.Nat.{mul-comm, mul-assoc, mul-right-comm, mul-one, one-mul, zero-mul, mul-pos, sub-self, not-le-of-lt, lt-of-not-le, mul-lt-mul-of-pos-right, lt-of-mul-lt-mul-right, eq-of-mul-eq-mul-right}
+use native.Mathlib.Nat.{mul-comm, mul-assoc, mul-right-comm, mul-one, one-mul, zero-mul, sub-self, not-le-of-lt, lt-of-not-le, mul-lt-mul-of-pos-right, lt-of-mul-lt-mul-right, eq-of-mul-eq-mul-right}
 use native.Mathlib.Omega.{arith}
-use mathlib.Core.Path.{_≡_, refl, sym, ap, subst, _∙_}
-use mathlib.Core.Bool.{Bool, true, false, not, _&&_, _||_, cond}
+use mathlib.Core.Path.{_≡_, refl, sym, ap, _∙_}
+use mathlib.Core.Bool.{Bool, true, false, not, _&&_, cond}
 use lib.IntN.{ℤ, pos, negsuc}
 use lib.Dec.{T, ltb, leb, eqb, ltb→lt, leb→le, eqb→eq, leb·suc-zero}
 use lib.Pow.{pow-add, pow-pos, pow-lt}
-use lib.Ieee.{Float, nan, inf, fin, Format, binary64, up, down, lt, le, neg, round, units, odd, size, low, prec, emax, fits, toBits, ofBits}
+use lib.Ieee.{Float, nan, inf, fin, Format, binary64, up, down, lt, le, neg, round, units, odd, low, prec, emax, fits, toBits, ofBits}
 use lib.Ieee.Digits.{back}
 use lib.Ieee.Fits.{round-is, round-fits, down-pos, and-l, and-r}
 use lib.Ieee.Bits.{ofBits-toBits}

@@ -1,23 +1,23 @@
 -- Times and their differences. A time is finite with the sign bit clear, as refusals 1 and 2 of document 01 leave it. Where a law needs that binary64 holds
 -- a number it asks so: every f64 of a program is such a number. Assumes nothing.
-use Prim.Native.Nat.{ℕ, zero, suc, _+_, _-_, _*_, _^_, _≤_, _<_}
+use Prim.Native.Nat.{ℕ, _+_, _-_, _*_, _^_, _≤_, _<_}
 use native.Mathlib.Nat.{mul-comm, mul-assoc, mul-left-comm, mul-right-comm, mul-one, mul-sub, mul-pos, mul-le-mul-right, mul-lt-mul-of-pos-right, zero-mul, one-mul, zero-add, lt-of-mul-lt-mul-right}
 use native.Mathlib.Omega.{arith}
-use mathlib.Core.Path.{_≡_, refl, sym, ap, ap₂, _∙_}
-use mathlib.Core.Bool.{Bool, true, false, not, _&&_, cond, true≢false}
-use lib.IntN.{ℤ, pos, negsuc}
+use mathlib.Core.Path.{_≡_, refl, ap, ap₂, _∙_}
+use mathlib.Core.Bool.{Bool, true, false, not, cond}
+use lib.IntN.{ℤ, negsuc}
 use lib.Dec.{T, ltb, ltb→lt, lt→ltb, nltb→le}
 use lib.Pow.{pow-pos}
 use lib.Ieee.{Float, nan, inf, fin, binary64, up, down, lt, le, neg, add, sub, sum, round, fits, isNan, low}
-use lib.Ieee.Fits.{down-pos, and-l, and-r}
+use lib.Ieee.Fits.{down-pos}
 use lib.Ieee.Order.{round-mono}
 use lib.Ieee.Scale.{finite}
 use Rattle.reals.specs.Constants.{plusZero}
 use Rattle.reals.specs.Order.{greater}
 use Rattle.reals.specs.Sign.{isSignNegative, isTime}
 use Rattle.reals.specs.Switch.{switch}
-use Rattle.reals.proofs.Truth.{is-true, is-false, or-l}
-use Rattle.reals.proofs.FloatOrder.{to-most, le-lt, not-lt→le, le→not-lt}
+use Rattle.reals.proofs.Truth.{is-true, is-false}
+use Rattle.reals.proofs.FloatOrder.{to-most, le-lt, le→not-lt}
 use Rattle.reals.proofs.Round.{plain, round-plain, neg-round, neg-order, neg-below, under-finite, zero-is, plain-not-below, zero-rounds, coarse, in-units, round-itself}
 
 abbrev minus : Float → Float → Float

@@ -17,6 +17,7 @@ use Rattle.logical.specs.Pre.{preOutput, preUpdate}
 use Rattle.logical.specs.PresentTimer.{presentTimerOutput, presentTimerUpdate}
 use Rattle.past.specs.Stepped.{notBefore, inOrder}
 use Rattle.past.specs.Turns.{pulse}
+use Rattle.past.specs.Acceptance.{lastTime}
 use Rattle.past.proofs.Stepped.{finite-here}
 use Rattle.past.proofs.LevelReading.{band, threshold-new}
 use Rattle.moving_average.specs.Past.{movingAverageOf}
@@ -27,7 +28,7 @@ use Rattle.relief_fan_group.specs.declared.types.ReliefSignals.{ReliefSi
 use Rattle.relief_fan_group.specs.Constants.{minSpeed, stageUpLevel, hys, stageUpTime, stageDownTime}
 use Rattle.relief_fan_group.specs.Signals.{pressureLoop, pressureControl, stageUp, stageDown, reliefSignals}
 use Rattle.relief_fan_group.specs.Step.{reliefBlocks, reliefFresh, reliefNext, signalsAt}
-use Rattle.relief_fan_group.specs.Reading.{Past, timeOfRow, pressureOfRow, mean, loopOf, upPulse, downPulse, lastTime}
+use Rattle.relief_fan_group.specs.Reading.{Past, timeOfRow, pressureOfRow, mean, loopOf, upPulse, downPulse}
 use Rattle.relief_fan_group.specs.Stages.{blocksOf, signalsOf}
 use Rattle.relief_fan_group.proofs.Pulses.{Way, request, gateOf, Reads, begins, gate-reads, pulse-reads, one-further}
 
@@ -44,7 +45,7 @@ pub fresh-is : reliefFresh ≡ stateOf []
 unfolding reliefFresh blocksOf movingAverageOf
 fresh-is = refl
 
-pub last-reads : (h : Past) → blocksOf h .last ≡ lastTime h
+pub last-reads : (h : Past) → blocksOf h .last ≡ lastTime timeOfRow h
 unfolding blocksOf
 last-reads [] = unfold reliefBlocks in refl
 last-reads (x ∷ h) = unfold reliefNext in refl

@@ -15,13 +15,13 @@ use Rattle.refusals.specs.declared.Refusal.the-variants.{WindowFull}
 use Rattle.refusals.specs.declared.Refusal.{Refusal}
 use Rattle.refusals.specs.declared.Verdict.{Verdict}
 use Rattle.refusals.specs.declared.Verdict.the-variants.{Accepted, Refused}
-use Rattle.refusals.specs.Refusals.{judge}
 use Rattle.past.specs.Stepped.{notBefore, inOrder}
+use Rattle.past.specs.Acceptance.{verdictAfter}
 use Rattle.past.specs.Whole.{Told, toldBy, nextBy, run, readAll}
 use Rattle.past.specs.Whole as whole
-use Rattle.past.proofs.Stepped.{seenOf, time-here}
+use Rattle.past.proofs.Stepped.{time-here}
 use Rattle.past.proofs.Whole.{good-accepted, run-reads, read-at, readNewest}
-use Rattle.past.proofs.Judged.{judged-in-order}
+use Rattle.past.proofs.Sequence.{in-order}
 use Rattle.moving_average.specs.Past.{belowLast, timeAccepted, accepted, windowIsFull, movingAverageOf}
 use Rattle.moving_average.specs.State.{movingAverageIsFull}
 use Rattle.moving_average.proofs.Accepted.{accepted-cons}
@@ -31,7 +31,7 @@ use Rattle.relief_fan_group.specs.Verdict.{numbersFinite, orWindowFull, 
 use Rattle.relief_fan_group.specs.Signals.{pressureControl, reliefSignals}
 use Rattle.relief_fan_group.specs.Commands.{reliefCommands}
 use Rattle.relief_fan_group.specs.Step.{reliefFresh, reliefRow, signalsAt, stepBy}
-use Rattle.relief_fan_group.specs.Reading.{Past, timeOfRow, pressureOfRow, mean, ReliefReading, reliefReading, lastTime, verdictOf}
+use Rattle.relief_fan_group.specs.Reading.{Past, timeOfRow, pressureOfRow, mean, ReliefReading, reliefReading, verdictOf}
 use Rattle.relief_fan_group.specs.Stages.{blocksOf, signalsOf}
 use Rattle.relief_fan_group.specs.Told.{pulsesTold, reliefTold, reliefReturned}
 use Rattle.relief_fan_group.proofs.Blocks.{stateOf, signals-are, fresh-is, up-pulse, down-pulse, last-reads}
@@ -46,17 +46,13 @@ good-order h g = and-l (inOrder timeOfRow h) (accepted (map timeOfRow h)) g
 good-window : (h : Past) → T (good h) → T (accepted (map timeOfRow h))
 good-window h g = and-r (inOrder timeOfRow h) (accepted (map timeOfRow h)) g
 
-last-is : (h : Past) → lastTime h ≡ seenOf timeOfRow h
-last-is [] = refl
-last-is (x ∷ h) = refl
-
 time-finite : (x : ReliefRow) → T (numbersFinite x) → T (finite (x .time))
 unfolding numbersFinite
 time-finite x t = and-l (finite (x .time)) (finite (x .pressure)) t
 
 -- refusals 1 to 3 do not fit: the times stay in order
-judged-order : (x : ReliefRow) (h : Past) → T (inOrder timeOfRow h) → judge (numbersFinite x) (x .time) (lastTime h) ≡ Accepted → T (inOrder timeOfRow (x ∷ h))
-judged-order x h o e = judged-in-order timeOfRow numbersFinite time-finite x h o (rw (last-is h) at e)
+judged-order : (x : ReliefRow) (h : Past) → T (inOrder timeOfRow h) → verdictAfter timeOfRow numbersFinite h x ≡ Accepted → T (inOrder timeOfRow (x ∷ h))
+judged-order = in-order timeOfRow numbersFinite time-finite
 
 -- and that is all that the window asks of the time
 in-time : (x : ReliefRow) (h : Past) → T (inOrder timeOfRow (x ∷ h)) → T (timeAccepted (map timeOfRow h) (x .time))
@@ -70,9 +66,9 @@ in-time x h o =
 
 -- ---- the verdict on the state of a past is that of the list
 verdict-is : (x : ReliefRow) (h : Past) → T (good h) → reliefVerdict (blocksOf h) x (movingAverageIsFull (movingAverageOf timeOfRow pressureOfRow h) (x .time)) ≡ verdictOf h x
-unfolding reliefVerdict verdictOf orWindowFull
+unfolding reliefVerdict verdictOf verdictAfter orWindowFull
 verdict-is x h g =
-    rw (last-reads h) (go (judge (numbersFinite x) (x .time) (lastTime h))
+    rw (last-reads h) (go (verdictAfter timeOfRow numbersFinite h x)
     (λ e. is-full-reads timeOfRow pressureOfRow h (good-window h g) (x .time) (in-time x h (judged-order x h (good-order h g) e))))
   where
     go : (v : Verdict) → (v ≡ Accepted → movingAverageIsFull (movingAverageOf timeOfRow pressureOfRow h) (x .time) ≡ windowIsFull (map timeOfRow h) (x .time))
@@ -93,7 +89,7 @@ tests (Refused r) full e = absurd (refused-is-not-accepted r e)
 good-more : (x : ReliefRow) (h : Past) → T (good h) → verdictOf h x ≡ Accepted → T (good (x ∷ h))
 unfolding verdictOf
 good-more x h g e =
-    let fits = tests (judge (numbersFinite x) (x .time) (lastTime h)) (windowIsFull (map timeOfRow h) (x .time)) e in
+    let fits = tests (verdictAfter timeOfRow numbersFinite h x) (windowIsFull (map timeOfRow h) (x .time)) e in
     let o = judged-order x h (good-order h g) (fits .0) in
     and-i (inOrder timeOfRow (x ∷ h)) (accepted (map timeOfRow (x ∷ h))) o (accepted-cons (x .time) (map timeOfRow h) (in-time x h o) (fits .1) (good-window h g))
 

@@ -3,12 +3,10 @@ use mathlib.Core.Bool.{Bool}
 use mathlib.Core.List.{List, [], _∷_, map}
 use lib.Ieee.{Float, binary64, add, sub, lt}
 use Rattle.reals.specs.Constants.{plusZero}
-use Rattle.reals.specs.declared.seen.Seen.{Seen}
-use Rattle.reals.specs.declared.seen.Seen.the-variants.{Never, At}
 use Rattle.refusals.specs.declared.Verdict.{Verdict}
-use Rattle.refusals.specs.Refusals.{judge}
 use Rattle.past.specs.Past.{since}
 use Rattle.past.specs.Turns.{pulse}
+use Rattle.past.specs.Acceptance.{verdictAfter}
 use Rattle.moving_average.specs.State.{movingAverageOutput}
 use Rattle.moving_average.specs.Past.{windowIsFull, movingAverageOf}
 use Rattle.relief_fan_group.specs.declared.types.ReliefRow.{ReliefRow}
@@ -58,11 +56,6 @@ pub record ReliefReading : Type 0 where
 unfoldable pub reliefReading : Past → ReliefReading
 reliefReading h = record { mean = mean h; up = upPulse h; down = downPulse h }
 
--- the time of the nearest accepted row before, if any
-abbrev pub lastTime : Past → Seen
-lastTime [] = Never
-lastTime (x ∷ h) = At (x .time)
-
 -- the refusal that fits a row after these accepted rows: the list alone tells it, refusal 4 by the different times of the rows before
 unfoldable pub verdictOf : Past → ReliefRow → Verdict
-verdictOf h x = orWindowFull (judge (numbersFinite x) (x .time) (lastTime h)) (windowIsFull (map timeOfRow h) (x .time))
+verdictOf h x = orWindowFull (verdictAfter timeOfRow numbersFinite h x) (windowIsFull (map timeOfRow h) (x .time))

@@ -1,5 +1,5 @@
 -- A field is read as a value exactly when its bytes are the column of that value. Assumes nothing.
-use Prim.Native.Nat.{ℕ, zero, suc, _-_, _≤_, _<_}
+use Prim.Native.Nat.{ℕ, suc, _-_, _≤_, _<_}
 use mathlib.Core.Path.{_≡_, refl, sym, ap, ap₂, _∙_}
 use mathlib.Core.List.{List}
 use mathlib.Core.Bool.{Bool, true, false, cond, not, _&&_, true≢false}
@@ -19,7 +19,6 @@ use Rattle.row_lines.specs.declared.field.Signed.{Signed}
 use Rattle.row_lines.specs.declared.field.Signed.the-variants as signed
 use Rattle.row_lines.specs.declared.field.YesNo.{YesNo}
 use Rattle.row_lines.specs.declared.field.YesNo.the-variants as yesNo
-use Rattle.row_lines.specs.declared.field.Real.{Real}
 use Rattle.row_lines.specs.declared.field.Real.the-variants as real
 use Rattle.row_lines.specs.Column.{column}
 use Rattle.row_lines.specs.Scan.{same, decimal, hasMinus, limit, scan}

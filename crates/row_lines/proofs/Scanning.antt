@@ -1,6 +1,6 @@
 -- A column scanned byte by byte says what its bytes are, and the column of a number is scanned as that number. Assumes nothing.
 use Prim.Native.Nat.{ℕ, zero, suc, _+_, _-_, _*_, _/_, _%_, _^_, _≤_, _<_}
-use mathlib.Core.Path.{_≡_, refl, sym, ap, _∙_, subst}
+use mathlib.Core.Path.{_≡_, refl, sym, ap, _∙_}
 use mathlib.Core.List.{List, [], _∷_, _++_}
 use mathlib.Core.Bool.{Bool, true, false, cond}
 use native.Mathlib.Omega.{arith}
@@ -9,8 +9,8 @@ use native.Mathlib.Nat.{pow-suc}
 use lib.ListN.{length, getD, take, replicate, length-append, length-replicate, replicate-append-replicate, List·getD-append, getD-replicate}
 use lib.Seq.{take-suc, getD-at}
 use lib.Dec.{ltb, leb, eqb}
-use borrow.Author.Tests.{ltb-true, ltb-false, leb-true, eqb-true, eqb-false, lt-ltb, le-ltb, le-leb, lt-leb, eq-eqb, ne-eqb}
-use Rattle.row_lines.specs.Column.{mark, space, pad, text}
+use borrow.Author.Tests.{ltb-true, ltb-false, leb-true, eqb-true, eqb-false, lt-ltb, le-ltb, le-leb, lt-leb, ne-eqb}
+use Rattle.row_lines.specs.Column.{mark, pad, text}
 use Rattle.row_lines.specs.Scan.{limit}
 
 -- ---- the scan: spaces, at most one minus, then a number below the limit with no zero before another digit

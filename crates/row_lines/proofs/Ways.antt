@@ -1,5 +1,5 @@
 -- The ways through the scan of a column of 21 bytes, each with what it gives. Assumes nothing.
-use Prim.Native.Nat.{ℕ, zero, suc, _+_, _-_, _*_, _≤_, _<_}
+use Prim.Native.Nat.{ℕ, suc, _+_, _-_, _*_, _≤_, _<_}
 use mathlib.Core.Path.{_≡_, refl, sym, ap, _∙_}
 use mathlib.Core.List.{List}
 use mathlib.Core.Bool.{Bool, true, false, cond, true≢false}
@@ -7,10 +7,9 @@ use native.Mathlib.Omega.{arith}
 use lib.ListN.{length, getD}
 use lib.Dec.{leb}
 use borrow.Author.Tests.{lt-ltb, le-ltb, le-leb, eq-eqb, ne-eqb}
-use Rattle.row_lines.specs.declared.scan.Scanned.{Scanned}
 use Rattle.row_lines.specs.declared.scan.Scanned.the-variants as scanned
 use Rattle.row_lines.specs.Scan.{limit, scan}
-use Rattle.row_lines.proofs.Scanning.{Seen, Blank, Minus, Number, Bad, digitOf, stepOf, scanTo, led, bad-stays, a-digit, below-digits, above-digits}
+use Rattle.row_lines.proofs.Scanning.{Seen, Blank, Number, Bad, digitOf, stepOf, scanTo, led, bad-stays, a-digit, below-digits, above-digits}
 use Rattle.row_lines.proofs.Inverse.{finish, scan-is}
 
 -- spaces, and then a minus or not: what comes next is the first digit, or the column is badly formed

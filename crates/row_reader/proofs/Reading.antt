@@ -3,7 +3,7 @@ use Prim.Native.Nat.{ℕ, _+_}
 use mathlib.Core.Path.{_≡_, refl, sym, ap, _∙_}
 use mathlib.Core.List.{List, [], _∷_, _++_}
 use native.Mathlib.Omega.{arith}
-use lib.ListN.{length, take, length-take}
+use lib.ListN.{length, length-take}
 use lib.Seq.{take-all}
 use Rattle.lines.specs.Lines.{Answer, Fed, linesAfter, restAfter, answers, feed, whole, cut, chunkwise, written}
 use Rattle.lines.proofs.Cutting.{at-most-or-above, written-is}

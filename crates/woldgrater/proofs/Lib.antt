@@ -1,2 +1,4 @@
--- The laws that the proofs cite.
+-- Laws that the proofs of the exported functions cite, and the theorem on calls.
 pub mod Playing
+pub mod Carrying
+pub mod Calling

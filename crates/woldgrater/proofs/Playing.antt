@@ -1,12 +1,15 @@
 -- A row file fed as one chunk, and the end of the input after it, give the output of the whole. Assumes nothing.
-use Prim.Native.Nat.{ℕ, _+_, _-_, _≤_}
+use Prim.Native.Nat.{ℕ, _+_, _-_, _≤_, _<_}
 use mathlib.Core.Path.{_≡_, sym, ap, _∙_}
+use mathlib.Core.Bool.{Bool, true, false}
 use mathlib.Core.List.{List, [], _∷_, _++_, append-nil, append-assoc}
 use native.Mathlib.Nat.{le-of-eq}
 use native.Mathlib.Omega.{arith}
 use lib.ListN.{length, take, drop, length-append, length-drop}
+use lib.Dec.{leb}
 use lib.Ieee.{Float}
 use lib.Seq.{length-take-le, take-append-le, take-append-add, take-at}
+use borrow.Author.Tests.{leb-true, leb-false}
 use Rattle.row_lines.specs.Column.{Wrote}
 use Rattle.lines.specs.Lines.{Fed, FedAs, cut}
 use Rattle.row_reader.specs.declared.types.Phase.the-variants as phase
@@ -14,14 +17,11 @@ use Rattle.row_reader.specs.declared.types.RowReader.{RowReader}
 use Rattle.row_reader.specs.Reader.{First, readerEnding, readerChunks, readerWritten}
 use Rattle.row_reader.specs.Rows.{Rows, rowsOf, rowsFeed, rowsOutput, freshAt, Finished}
 use Rattle.row_reader.proofs.RowFeeding.{fresh-rows, rows-any-cutting}
-use Rattle.woldgrater.specs.Play.{Played}
+use Rattle.woldgrater.specs.Play.{room, Says, Played}
 
 one-chunk : (rows : List ℕ) → (rowsFeed First [] rows .said ++ []) ++ readerEnding (rowsFeed First [] rows .next) (cut (rowsFeed First [] rows .part)) ≡ rowsOutput (rows ++ [])
 unfolding readerChunks readerWritten
 one-chunk rows = rows-any-cutting (rows ∷ [])
-
-fresh-first : (reader : RowReader) (times integrals : List Float) → reader ≡ freshAt phase.First → rowsOf reader times integrals ≡ First
-fresh-first reader times integrals e = fresh-rows reader phase.First times integrals e
 
 -- what a fresh reader says of a whole row file
 pub whole-said : (reader : RowReader) → reader ≡ freshAt phase.First → (times integrals : List Float) (rows : List ℕ) (q : Rows) (line : List ℕ) (len : ℕ) (out : List ℕ) (sent : ℕ)
@@ -29,7 +29,7 @@ pub whole-said : (reader : RowReader) → reader ≡ freshAt phase.First → (ti
     → take sent out ++ readerEnding q (take len line) ≡ rowsOutput rows
 whole-said reader e times integrals rows q line len out sent h =
     let f = rowsFeed First [] rows in
-    let g : rowsFeed (rowsOf reader times integrals) [] rows ≡ f = ap (λ (x : Rows). rowsFeed x [] rows) (fresh-first reader times integrals e) in
+    let g : rowsFeed (rowsOf reader times integrals) [] rows ≡ f = ap (λ (x : Rows). rowsFeed x [] rows) (fresh-rows reader phase.First times integrals e) in
     ap (λ (x : List ℕ). x ++ readerEnding q (take len line)) (h .said)
     ∙ ap (λ (x : Rows). rowsFeed (rowsOf reader times integrals) [] rows .said ++ readerEnding x (take len line)) (h .state)
     ∙ ap (λ (x : List ℕ). rowsFeed (rowsOf reader times integrals) [] rows .said ++ readerEnding (rowsFeed (rowsOf reader times integrals) [] rows .next) x) (h .part)
@@ -44,6 +44,13 @@ text-taken rest after tail e n w =
     ap (λ (x : List ℕ). take n (x ++ tail)) (w .bytes)
     ∙ ap (λ (x : List ℕ). take n x) (append-assoc e (drop (0 + length e) rest) tail)
     ∙ take-at e (drop (0 + length e) rest ++ tail) n (w .long)
+
+-- and with nothing after it
+pub wrote-says : (rest after : List ℕ) (e : List ℕ) (n : ℕ) → Wrote rest 0 e n after n → Says e after n
+wrote-says rest after e n w = record {
+  bytes = ap (λ (x : List ℕ). take n x) (sym (append-nil after)) ∙ text-taken rest after [] e n w;
+  long = sym (w .long);
+}
 
 -- the bytes said of the rows, and those said of the end in the part after them
 module _ (first more rest after tail : List ℕ) (sent n : ℕ) (e : List ℕ) (fits : sent ≤ length first) (w : Wrote rest 0 e n after n) where
@@ -84,3 +91,11 @@ played reader last e times integrals times′ integrals′ rows line len first m
       bytes = both-taken first more rest after tail sent n _ (h .said-fits) v ∙ s;
       long = both-long first more rest after tail sent n _ (h .said-fits) v ∙ ap length s;
     }
+
+-- ---- what the test of the room tells
+module _ (n out : ℕ) (r : Bool) (e : r ≡ leb (room n) out) where
+  pub there-is-room : r ≡ true → room n ≤ out
+  there-is-room h = leb-true (room n) out (sym e ∙ h)
+
+  pub too-little-room : r ≡ false → out < room n
+  too-little-room h = leb-false (room n) out (sym e ∙ h)

@@ -1,2 +1,3 @@
 -- What the exported functions cite.
 pub mod Play
+pub mod Chunks

@@ -5,18 +5,26 @@ use mathlib.Core.List.{List}
 use lib.ListN.{length, take}
 use Rattle.row_reader.specs.Rows.{rowsOutput}
 
+-- the bytes of a status line
+abbrev pub statusLength : ℕ
+statusLength = 22
+
 -- the room asked of an output for the answers to n bytes: a status line for each of them, for each of the 256 that a line buffer holds, and for the end
 abbrev pub room : ℕ → ℕ
-room n = 22 * (257 + n)
+room n = statusLength * (257 + n)
 
 -- the answer to a caller whose output is too small
 abbrev pub refused : ℕ
 refused = 2 ^ 64 - 1
 
--- the first r bytes of the output are those of the row file
-pub record Played (rows after : List ℕ) (r : ℕ) : Type 0 where
-  pub bytes : take r after ≡ rowsOutput rows
-  pub long : r ≡ length (rowsOutput rows)
+-- the first r bytes of the output are a text
+pub record Says (text after : List ℕ) (r : ℕ) : Type 0 where
+  pub bytes : take r after ≡ text
+  pub long : r ≡ length text
+
+-- they are those of the row file
+abbrev pub Played : List ℕ → List ℕ → ℕ → Type 0
+Played rows after r = Says (rowsOutput rows) after r
 
 -- played where there is room, and else refused, with the output as it was
 pub record PlayedOrRefused (rows out after : List ℕ) (r : ℕ) : Type 0 where

@@ -1,50 +1,5 @@
 // What firmware in C or Rust links (include/woldgrater.h). Callers prove nothing, so nothing is required of them but what their types say.
-ghost use Prim.Native.Nat.{_≤_};
-ghost use lib.ListN.{length};
-ghost use Rattle.woldgrater.specs.Play.{room, Played, PlayedOrRefused};
-use row_reader::chunk::fresh_at;
-use row_reader::feed::feed;
-use row_reader::feed::finish;
-use row_reader::types::Phase;
-
-// A whole row file, from a fresh start, into an output with room for it.
-fn play(rows: &[u8], out: &mut [u8]) -> usize
-    requires { ⌜ room (length (now rows)) ≤ length (now out) ⌝ }
-    ensures { λ r. ⌜ Played (now (rows .entry)) (now (out .exit)) r ⌝ }
-{
-    let mut line = [0u8; 256];
-    let mut times = [0.0; 512];
-    let mut integrals = [0.0; 512];
-    let reader = fresh_at(Phase::First);
-    let answers = 22 * (256 + rows.len());
-    let fed = feed(
-        rows,
-        &mut line,
-        &mut out[..answers],
-        &mut times,
-        &mut integrals,
-        reader,
-        0,
-    );
-    let sent = fed.sent;
-    let kept = fed.len;
-    let last = fed.reader;
-    let said = finish(last, &line, kept, &mut out[sent..]);
-    sent + said
-}
-
-// Plays a whole row file from a fresh start: its output at the start of out, and its length; or usize::MAX, and nothing written, where out is too
-// small.
-#[no_mangle]
-pub extern "C" fn woldgrater_play(rows: &[u8], out: &mut [u8]) -> usize
-    ensures { λ r. ⌜ PlayedOrRefused (now (rows .entry)) (now (out .entry)) (now (out .exit)) r ⌝ }
-{
-    let lines = out.len() / 22;
-    if lines < 257 {
-        return usize::MAX;
-    }
-    if lines - 257 < rows.len() {
-        return usize::MAX;
-    }
-    play(rows, out)
-}
+pub mod room; // the room that is asked of an output
+pub mod play; // a whole row file in one call
+pub mod lent; // the reader on arrays that a caller lends
+pub mod chunks; // a row file chunk by chunk, in memory that the caller holds

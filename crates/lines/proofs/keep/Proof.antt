@@ -1,11 +1,11 @@
 -- `keep` meets its contract. The loop's invariant: the first k of the bytes are copied. Assumes nothing.
 use Prim.Native.Nat.{ℕ, _+_, _-_, _≤_, _<_}
-use mathlib.Core.Path.{_≡_, refl, sym, ap, _∙_}
+use mathlib.Core.Path.{_≡_, refl, ap, _∙_}
 use mathlib.Core.List.{List}
 use native.Mathlib.Omega.{arith}
 use native.Mathlib.Numerals.{add-one}
-use lib.ListN.{length, getD, take, set}
-use lib.Seq.{paste, paste-zero, paste-suc, length-paste}
+use lib.ListN.{length, take}
+use lib.Seq.{paste, paste-zero, paste-suc}
 use borrow.Author.Needs.{needs}
 use Rattle.lines.proofs.Keeping.{kept-is}
 use Rattle.lines.proofs.keep.Statement.{statement}

@@ -1,6 +1,5 @@
 -- `write_answer` meets its contract: the commands, or the number of the refusal. Assumes nothing.
 use mathlib.Core.Path.{sym, ap, _∙_}
-use lib.ListN.{length}
 use Rattle.row_lines.specs.Line.{statusLine}
 use Rattle.row_lines.proofs.Writing.{wrote-text}
 use Rattle.freeze_lines.specs.Freeze.{freezeAnswerLine}

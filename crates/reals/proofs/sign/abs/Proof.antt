@@ -1,6 +1,6 @@
 -- `abs` meets its contract: a float with its sign bit set is turned about. Assumes nothing.
 use mathlib.Core.Path.{_≡_, refl, sym, _∙_}
-use mathlib.Core.Bool.{Bool, true, false, true≢false}
+use mathlib.Core.Bool.{true, false, true≢false}
 use lib.Ieee.{Float, nan, inf, fin, neg}
 use borrow.Author.Needs.{needs}
 use Rattle.reals.specs.Sign.{abs, isSignNegative}

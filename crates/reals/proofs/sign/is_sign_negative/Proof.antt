@@ -1,5 +1,5 @@
 -- `is_sign_negative` meets its contract: a number below 0 has its sign bit set, and 1 / x tells the two zeros apart. Assumes nothing.
-use Prim.Native.Nat.{ℕ, zero, suc, _+_, _*_, _<_}
+use Prim.Native.Nat.{ℕ, zero, suc, _+_, _*_}
 use native.Mathlib.Nat.{mul-pos, mul-one, zero-mul, zero-lt-suc}
 use native.Mathlib.Omega.{arith}
 use mathlib.Core.Path.{_≡_, refl}

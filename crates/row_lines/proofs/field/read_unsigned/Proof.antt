@@ -1,5 +1,4 @@
 -- `read_unsigned` meets its contract: a number with no minus before it, and nothing else. Assumes nothing.
-use mathlib.Core.Path.{sym, _∙_}
 use Rattle.row_lines.proofs.Fields.{unsigned-of}
 use borrow.Author.Needs.{needs}
 use Rattle.row_lines.proofs.field.read_unsigned.Statement.{statement}

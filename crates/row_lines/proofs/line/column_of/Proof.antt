@@ -1,5 +1,5 @@
 -- `column_of` meets its contract: the part from 21 k to 21 k + 21 has 21 bytes. Assumes nothing.
-use Prim.Native.Nat.{ℕ, _+_, _*_, _-_}
+use Prim.Native.Nat.{_+_, _*_, _-_}
 use mathlib.Core.Path.{_≡_}
 use native.Mathlib.Omega.{arith}
 use Rattle.row_lines.specs.Line.{columnOf}

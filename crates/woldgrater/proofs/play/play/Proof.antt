@@ -8,8 +8,8 @@ use lib.ListN.{length, drop, length-drop}
 use lib.Seq.{length-take-le}
 use borrow.Author.Needs.{needs}
 use Rattle.woldgrater.proofs.Playing.{end-starts, end-fits, played}
-use Rattle.woldgrater.proofs.play.Statement.{statement}
-use Rattle.woldgrater.proofs.play.Tie as tie
+use Rattle.woldgrater.proofs.play.play.Statement.{statement}
+use Rattle.woldgrater.proofs.play.play.Tie as tie
 
 -- the room that is lent to `feed`
 abbrev answers : tie.Start → ℕ

@@ -1,0 +1,3 @@
+-- Laws that the proofs of state_words cite.
+pub mod BlocksBack
+pub mod StatesBack

@@ -1,0 +1,12 @@
+-- `EnableWords::state` meets its contract: each field is what its callee's equation says. Assumes nothing.
+use borrow.Author.Needs.{needs}
+use Rattle.state_words.specs.Enable.{enableOf}
+use Rattle.state_words.proofs.enable.EnableWords.state.Statement.{statement}
+use Rattle.state_words.proofs.enable.EnableWords.state.Tie as tie
+
+returns : tie.Need-returns
+unfolding enableOf
+returns c = rw (c .before .before .before .word-flag .ensures, c .before .before .state .ensures, c .before .state2 .ensures, c .state3 .ensures)
+
+pub state-spec : {M : Type 1} → statement M
+state-spec = tie.close (tie.spec (λ c κs. search needs) (λ c κs. search needs) (λ c κs. search needs) (λ c κs. search needs) returns)

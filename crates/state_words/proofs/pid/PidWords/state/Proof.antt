@@ -1,0 +1,12 @@
+-- `PidWords::state` meets its contract: each field is what its callee's equation says. Assumes nothing.
+use borrow.Author.Needs.{needs}
+use Rattle.state_words.specs.Pid.{pidOf}
+use Rattle.state_words.proofs.pid.PidWords.state.Statement.{statement}
+use Rattle.state_words.proofs.pid.PidWords.state.Tie as tie
+
+returns : tie.Need-returns
+unfolding pidOf
+returns c = rw (c .state .ensures)
+
+pub state-spec : {M : Type 1} → statement M
+state-spec = tie.close (tie.spec (λ c κs. search needs) returns)

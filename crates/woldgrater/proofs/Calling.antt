@@ -1,0 +1,57 @@
+-- A row file fed chunk by chunk, and ended, gives the output of the whole file, however it is cut. Assumes nothing.
+use Prim.Native.Nat.{ℕ}
+use mathlib.Core.Path.{_≡_, refl, sym, ap, _∙_}
+use mathlib.Core.List.{List, [], _∷_, _++_}
+use lib.ListN.{take}
+use Rattle.lines.specs.Lines.{Fed, whole, cut}
+use Rattle.freeze_protection.specs.Step.{freezeFresh}
+use Rattle.economizer_controller.specs.Step.{economizerFresh}
+use Rattle.relief_fan_group.specs.Step.{reliefFresh}
+use Rattle.freeze_lines.specs.Freeze.{freezeAnswered}
+use Rattle.relief_lines.specs.Relief.{reliefAnswered}
+use Rattle.econ_lines.specs.Econ.{econAnswered}
+use Rattle.row_reader.specs.declared.types.Phase.the-variants as phase
+use Rattle.row_reader.specs.Reader.{First, readerEnding, readerChunks, readerWritten}
+use Rattle.row_reader.specs.Rows.{Rows, rowsFeed, rowsOutput, freshAt}
+use Rattle.row_reader.proofs.RowFeeding.{fresh-rows, rows-any-cutting}
+use Rattle.state_words.specs.Reader.{readerOf}
+use Rattle.state_words.proofs.StatesBack.{reader-back}
+use Rattle.woldgrater.specs.declared.chunks.State.{State}
+use Rattle.woldgrater.specs.Chunks.{Memory, started, rowsIn, partIn, Call, Calls, memoryAfter, fedBy, sentBy, EndedBy}
+
+-- chunk after chunk, as `rowsWritten` goes
+abbrev chunks : Rows → List ℕ → List (List ℕ) → Fed Rows
+chunks = readerChunks freezeFresh reliefFresh economizerFresh freezeAnswered reliefAnswered econAnswered
+
+-- where calls stand after a memory
+abbrev called : Memory → List Call → Fed Rows
+called m calls = record { next = rowsIn (memoryAfter m calls); part = partIn (memoryAfter m calls .state) (memoryAfter m calls .line); said = sentBy calls }
+
+calls-are-chunks : (m : Memory) (calls : List Call) → Calls m calls → chunks (rowsIn m) (partIn (m .state) (m .line)) (fedBy calls) ≡ called m calls
+unfolding readerChunks
+calls-are-chunks m [] h = refl
+calls-are-chunks m (c ∷ calls) h =
+    let f = rowsFeed (rowsIn m) (partIn (m .state) (m .line)) (c .chunk) in
+    let rest : chunks (f .next) (cut (f .part)) (fedBy calls) ≡ called (c .next) calls = (λ i. chunks (sym (h .0 .state) i) (sym (h .0 .part) i) (fedBy calls)) ∙ calls-are-chunks (c .next) calls (h .1) in
+    λ i. record { next = rest i .next; part = rest i .part; said = sym (h .0 .said) i ++ rest i .said }
+
+-- the reader of a started memory is before the first line
+started-first : (m : Memory) → m .state ≡ started → rowsIn m ≡ First
+unfolding started
+started-first m e = fresh-rows _ phase.First (m .times) (m .integrals) (ap (λ (s : State). readerOf (s .reader)) e ∙ reader-back (freshAt phase.First))
+
+started-part : (m : Memory) → m .state ≡ started → partIn (m .state) (m .line) ≡ []
+unfolding started
+started-part m e = ap (λ (s : State). partIn s (m .line)) e
+
+-- a file started, fed in chunks and ended
+pub file-fed : (m : Memory) → m .state ≡ started → (calls : List Call) → Calls m calls → (after : List ℕ) (r : ℕ) → EndedBy (memoryAfter m calls .state) (memoryAfter m calls .line) after r
+    → sentBy calls ++ take r after ≡ rowsOutput (whole (fedBy calls))
+unfolding readerWritten
+file-fed m e calls h after r w =
+    let last = memoryAfter m calls in
+    let f = chunks First [] (fedBy calls) in
+    let is : called m calls ≡ f = sym (calls-are-chunks m calls h) ∙ (λ i. chunks (started-first m e i) (started-part m e i) (fedBy calls)) in
+    ap (λ (x : List ℕ). sentBy calls ++ x) (w (last .times) (last .integrals) .bytes)
+    ∙ ap (λ (x : Fed Rows). x .said ++ readerEnding (x .next) (x .part)) is
+    ∙ rows-any-cutting (fedBy calls)
