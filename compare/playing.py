@@ -6,6 +6,7 @@ import signal
 import subprocess
 import tempfile
 import time
+from collections import namedtuple
 
 import comparing
 from comparing import ANSWERS, REFERENCE, ROWS, TARGET
@@ -13,6 +14,15 @@ from comparing import ANSWERS, REFERENCE, ROWS, TARGET
 SECONDS = 60     # longer than a program needs for any of the files
 PIECES = [1, 20, 21, 252, 253, 4000, 4096, 30000, 65536]
 NO_END = f'did not end within {SECONDS} s'
+
+# A difference: answer line and column, counted from 0, and the two lines, None where there is none.
+Place = namedtuple('Place', 'index column expected got')
+
+
+def hand_over(pipe, piece):
+    """Writes the whole piece: a write that a signal ends early writes only a part."""
+    while piece:
+        piece = piece[pipe.write(piece):]
 
 
 def answers(program, path, seed=0):
@@ -27,7 +37,7 @@ def answers(program, path, seed=0):
             return b'', f'cannot be run: {error}'
         try:
             while pieces and (piece := rows.read(pieces.choice(PIECES))):
-                process.stdin.write(piece)
+                hand_over(process.stdin, piece)
         except BrokenPipeError:
             pass
         if pieces:
@@ -43,14 +53,20 @@ def answers(program, path, seed=0):
 
 
 def play(program, kind, path, seed=0):
-    """What goes wrong with this file: the place of a difference, a sentence, or None."""
+    """What goes wrong with this file: a Place, a sentence, or None."""
     expected, wrong = answers(REFERENCE, path)
     if wrong:
         return f'the reference {wrong}'
     got, wrong = answers(program, path, seed)
     if wrong:
         return f'the program {wrong}'
-    return comparing.difference(kind, expected, got)
+    found = comparing.difference(kind, expected, got)
+    return found and Place(*found, line_at(expected, found[0]), line_at(got, found[0]))
+
+
+def line_at(text, index):
+    lines = text.split(b'\n')
+    return None if index >= len(lines) or index == len(lines) - 1 and not lines[index] else lines[index]
 
 
 class Difference:
@@ -78,38 +94,39 @@ class Difference:
         return play(self.program, self.kind, self.saved, self.seed)
 
     def show(self):
-        found = self.found if isinstance(self.found, str) else f'answer line {self.found[0] + 1} differs'
+        found = self.found if isinstance(self.found, str) else f'answer line {self.found.index + 1} differs'
         print(f'first difference: {self.kind}, seed {self.seed}: {found}')
         pieces = ', handed over in pieces' if self.seed % 4 == 3 else ''
         saved = os.path.relpath(self.saved)
         print(f'  the input, cut down to {len(self.lines)} lines{pieces}, is in {saved}')
         wrong = self.wrong(self.lines)
         if wrong is None:
-            print('  played again, the difference did not occur')
-        elif isinstance(wrong, str):
-            print(f'  {wrong}')
-        else:
-            self.show_place(*wrong)
+            print('  played again, the difference did not occur; what was found first:')
+        self.show_wrong(wrong or self.found)
         for line in self.lines[:20]:
             print(f'    {show_row(self.kind, line)}')
         if len(self.lines) > 20:
             print('    ..')
 
-    def show_place(self, index, place):
-        print(f'  answer line {index + 1}, which answers input line {index + 2}')
-        if place is not None:
-            print(f'  column {place + 1}, {ANSWERS[self.kind][place][0]}')
-        for word, program in (('expected', REFERENCE), ('got     ', self.program)):
-            text = answers(program, self.saved, self.seed)[0].split(b'\n')
-            if index >= len(text) or index == len(text) - 1 and not text[index]:
-                print(f'  {word} no line')
-            elif place is None:
-                print(f'  {word} {text[index][:300].decode("ascii", "backslashreplace")}')
-            else:
-                form = ANSWERS[self.kind][place][1]
-                column = comparing.columns(text[index])[place]
-                value = f' ({comparing.read(column, form)!r})' if form == 'f' else ''
-                print(f'  {word} {column.decode("ascii", "backslashreplace").strip()}{value}')
+    def show_wrong(self, wrong):
+        if isinstance(wrong, str):
+            print(f'  {wrong}')
+            return
+        print(f'  answer line {wrong.index + 1}, which answers input line {wrong.index + 2}')
+        if wrong.column is not None:
+            print(f'  column {wrong.column + 1}, {ANSWERS[self.kind][wrong.column][0]}')
+        for word, line in (('expected', wrong.expected), ('got     ', wrong.got)):
+            print(f'  {word} {self.show_line(line, wrong.column)}')
+
+    def show_line(self, line, place):
+        if line is None:
+            return 'no line'
+        if place is None:
+            return line[:300].decode('ascii', 'backslashreplace')
+        form = ANSWERS[self.kind][place][1]
+        column = comparing.columns(line)[place]
+        value = f' ({comparing.read(column, form)!r})' if form == 'f' else ''
+        return column.decode('ascii', 'backslashreplace').strip() + value
 
 
 def show_row(kind, line):

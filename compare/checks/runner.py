@@ -1,8 +1,10 @@
 """The runner must find wrong programs, and pass programs that differ in nothing that counts."""
 
 import os
+import signal
 import subprocess
 import tempfile
+import time
 
 from checks.report import check, script
 from comparing import ANSWERS, COMPARE, REFERENCE
@@ -28,14 +30,39 @@ RIGHT = [
 ]
 
 
+def start(program, rounds, kind):
+    return subprocess.Popen([os.path.join(COMPARE, 'run'), program, str(rounds), kind],
+                            stdout=subprocess.PIPE, text=True)
+
+
 def play(folder, kind, rounds, change):
     program = os.path.join(folder, 'program')
     floats = [place for place, (_, form) in enumerate(ANSWERS[kind]) if form == 'f']
     zeros = ' '.join(f"-e 's/^(.{{{21 * place}}}) {{20}}0/\\1{MINUS_ZERO}/'" for place in floats)
     script(program, f'#!/bin/bash\n"{REFERENCE}" {change.replace("{zeros}", zeros)}\n')
-    ended = subprocess.run([os.path.join(COMPARE, 'run'), program, str(rounds), kind],
-                           stdout=subprocess.PIPE, text=True)
-    return ended.returncode, ended.stdout
+    runner = start(program, rounds, kind)
+    printed = runner.communicate()[0]
+    return runner.returncode, printed
+
+
+def passes_all(status, printed, rounds):
+    return status == 0 and printed.endswith(f'\n{rounds} passed, 0 failed\n')
+
+
+def check_interrupted(folder):
+    """A runner that is stopped and goes on while it waits to write loses no bytes. Among the files are
+    some that do not fit into a pipe, and the program reads late."""
+    program = os.path.join(folder, 'program')
+    script(program, f'#!/bin/bash\nsleep 0.2\nexec "{REFERENCE}"\n')
+    runner = start(program, 12, 'relief')
+    while runner.poll() is None:
+        time.sleep(0.05)
+        runner.send_signal(signal.SIGSTOP)
+        runner.send_signal(signal.SIGCONT)
+    printed = runner.stdout.read()
+    runner.stdout.close()
+    clear = passes_all(runner.returncode, printed, 12)
+    check('the runner loses no bytes when it is interrupted', '' if clear else printed)
 
 
 def check_runner():
@@ -48,5 +75,6 @@ def check_runner():
         for kind in ANSWERS:
             for name, change in RIGHT:
                 status, printed = play(folder, kind, 12, change)
-                clear = status == 0 and printed.endswith('\n12 passed, 0 failed\n')
+                clear = passes_all(status, printed, 12)
                 check(f'the runner passes {kind} rows where {name} differs', '' if clear else printed)
+        check_interrupted(folder)
