@@ -10,6 +10,7 @@ use Rattle.reals.specs.Constants.{plusZero, half, one}
 use Rattle.reals.specs.Limits.{clamp}
 use Rattle.reals.specs.Line.{buildingsLine}
 use Rattle.reals.specs.Switch.{switch}
+use Rattle.reals.proofs.Between.{lesser-at-most, lesser-nan, lesser-of-nan, clamp-finite, switch-number, mul-number, add-number}
 use Rattle.refusals.specs.declared.Verdict.{Verdict}
 use Rattle.refusals.specs.declared.Verdict.the-variants.{Accepted, Refused}
 use Rattle.economizer_controller.specs.declared.types.DamperLimits.{DamperLimits}
@@ -24,7 +25,6 @@ use Rattle.economizer_controller.specs.Enable.{enableLimits}
 use Rattle.economizer_controller.specs.Relief.{outdoorPosition, reliefModulation}
 use Rattle.economizer_controller.specs.Verdict.{economizerVerdict}
 use Rattle.economizer_controller.specs.Step.{economizerSignals, economizerCommands, stepBy, economizerRow}
-use Rattle.economizer_controller.proofs.Between.{lesser-at-most, lesser-nan, lesser-of-nan, clamp-finite, switch-number, mul-number, add-number}
 
 -- ---- the third pass, whatever its signal and its limits are
 module _ (signal : Float) (limits : DamperLimits) (enable : EnableLimits) where

@@ -1,7 +1,8 @@
--- The laws that the proofs cite: of tests, of the order of floats, of times, and of loops over four fans.
+-- The laws that the proofs cite: of tests, of the order of floats, of numbers between limits, of times, and of loops over four fans.
 pub mod Truth
 pub mod FloatOrder
 pub mod Round
+pub mod Between
 pub mod Times
 pub mod Four
 pub mod Constants
