@@ -1,8 +1,9 @@
 // Reads a row file from standard input and writes its answers to standard output (document 01, 'Row lines'). What came is answered and written
-// before more is read, so it serves a pipe.
+// before more is read, so it serves a pipe. Where reading or writing fails it says so on standard error, and stops: it has no exit status to say it with.
 ghost use mathlib.Core.Path.{_≡_};
 ghost use Prim.Native.Nat.{_+_, _*_, _≤_};
 ghost use lib.ListN.{length};
+use libc::STDERR_FILENO;
 use libc::STDIN_FILENO;
 use libc::STDOUT_FILENO;
 use row_reader::chunk::fresh_at;
@@ -18,16 +19,36 @@ struct Turned {
     more: bool,
 }
 
+// Writes answers, and tells whether they were written.
+fn put(answers: &[u8]) -> bool {
+    let written = io::write_all(STDOUT_FILENO, answers);
+    if !written {
+        io::write_all(STDERR_FILENO, b"rows: the answers could not be written\n");
+    }
+    written
+}
+
 // The input has ended.
 fn end(reader: RowReader, line: &[u8], len: usize, out: &mut [u8])
     requires { ⌜ (len ≤ length (now line)) × (22 ≤ length (now out)) ⌝ }
 {
     let said = finish(reader, line, len, out);
-    io::write_all(STDOUT_FILENO, &out[..said]);
+    put(&out[..said]);
 }
 
-// Reads once, and answers the lines that end in what came. There is no next turn where the input has ended, the output is closed, or the first line
-// names no kind.
+// A read gave no bytes: the input has ended, or it cannot be read further and how it ends is not known.
+fn no_more(got: isize, reader: RowReader, line: &[u8], len: usize, out: &mut [u8])
+    requires { ⌜ (len ≤ length (now line)) × (22 ≤ length (now out)) ⌝ }
+{
+    if got < 0 {
+        io::write_all(STDERR_FILENO, b"rows: the input could not be read\n");
+    } else {
+        end(reader, line, len, out);
+    }
+}
+
+// Reads once, and answers the lines that end in what came. There is no next turn where no more comes, the answers cannot be written, or the first
+// line names no kind.
 fn turn(
     buffer: &mut [u8],
     line: &mut [u8],
@@ -43,7 +64,7 @@ fn turn(
     let got = libc::read(STDIN_FILENO, buffer);
     let n = io::count(got, buffer);
     if n == 0 {
-        end(reader, line, had, out);
+        no_more(got, reader, line, had, out);
         return Turned {
             reader,
             len: had,
@@ -52,7 +73,7 @@ fn turn(
     }
     let fed = feed(&buffer[..n], line, out, times, integrals, reader, had);
     let sent = fed.sent;
-    let written = io::write_all(STDOUT_FILENO, &out[..sent]);
+    let written = put(&out[..sent]);
     let next = fed.reader;
     let phase = next.phase;
     let stopped = phase.stopped();

@@ -9,16 +9,16 @@ use Rattle.rows.proofs.end.Tie as tie
 finish-requires : tie.Need-finish-requires
 finish-requires c κs = search needs
 
-slice-reshare-prefix-write-all : tie.Need-slice-reshare-prefix-write-all
-slice-reshare-prefix-write-all c = search needs
+slice-reshare-prefix-put : tie.Need-slice-reshare-prefix-put
+slice-reshare-prefix-put c = search needs
 
-slice-aggregate-write-all : tie.Need-slice-aggregate-write-all
-slice-aggregate-write-all c =
+slice-aggregate-put : tie.Need-slice-aggregate-put
+slice-aggregate-put c =
     let f = c .before .before .before .finish in
     sym (length-take-le _ (f .last .1 .1 .1 .0) (omega (arith, f .ensures .1, f .kept .1 .1 .1 .0, c .before .before .before .before .before .before .before .pre .1)))
 
-write-all-requires : tie.Need-write-all-requires
-write-all-requires c κs = search needs
+put-requires : tie.Need-put-requires
+put-requires c κs = search needs
 
 same-length : tie.Need-same-length
 same-length c = search needs
@@ -31,8 +31,8 @@ end-spec =
     tie.close
     (tie.spec
     finish-requires
-    slice-reshare-prefix-write-all
-    slice-aggregate-write-all
-    write-all-requires
+    slice-reshare-prefix-put
+    slice-aggregate-put
+    put-requires
     same-length
     returns)

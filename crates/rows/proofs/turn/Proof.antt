@@ -11,8 +11,8 @@ read-requires c κs = search needs
 count-requires : tie.Need-count-requires
 count-requires c κs = search needs
 
-end-requires : tie.Need-end-requires
-end-requires c κs = search needs
+no-more-requires : tie.Need-no-more-requires
+no-more-requires c κs = search needs
 
 same-length : tie.Need-same-length
 same-length c = search needs
@@ -35,14 +35,14 @@ slice-aggregate-feed c = search needs
 feed-requires : tie.Need-feed-requires
 feed-requires c κs = search needs
 
-slice-reshare-prefix-write-all : tie.Need-slice-reshare-prefix-write-all
-slice-reshare-prefix-write-all c = search needs
+slice-reshare-prefix-put : tie.Need-slice-reshare-prefix-put
+slice-reshare-prefix-put c = search needs
 
-slice-aggregate-write-all : tie.Need-slice-aggregate-write-all
-slice-aggregate-write-all c = sym (length-take-le _ _ (c .before .before .before .before .before .feed .ensures .2 .said-fits))
+slice-aggregate-put : tie.Need-slice-aggregate-put
+slice-aggregate-put c = sym (length-take-le _ _ (c .before .before .before .before .before .feed .ensures .2 .said-fits))
 
-write-all-requires : tie.Need-write-all-requires
-write-all-requires c κs = search needs
+put-requires : tie.Need-put-requires
+put-requires c κs = search needs
 
 stopped-requires : tie.Need-stopped-requires
 stopped-requires c κs = search needs
@@ -65,7 +65,7 @@ turn-spec =
     (tie.spec
     read-requires
     count-requires
-    end-requires
+    no-more-requires
     same-length
     same-length-2
     same-length-3
@@ -73,9 +73,9 @@ turn-spec =
     slice-reshare-prefix-feed
     slice-aggregate-feed
     feed-requires
-    slice-reshare-prefix-write-all
-    slice-aggregate-write-all
-    write-all-requires
+    slice-reshare-prefix-put
+    slice-aggregate-put
+    put-requires
     stopped-requires
     same-length-4
     same-length-5
