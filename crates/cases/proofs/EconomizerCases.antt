@@ -14,7 +14,7 @@ use Rattle.logical.proofs.Differ.{delays-differ-on-row-0}
 use Rattle.logical.specs.TrueDelay.{trueDelayNew, trueDelayNextTimer, trueDelayOutput, trueDelayUpdate}
 use Rattle.logical.specs.Switch.{logicalSwitch}
 use Rattle.logical.specs.TrueFalseHold.{trueFalseHoldNew, trueFalseHoldOutputAndTimer, trueFalseHoldOutput, trueFalseHoldUpdate}
-use Rattle.past.specs.Whole.{run}
+use Rattle.logical.specs.Run.{run}
 use Rattle.refusals.specs.Refusals.{judge}
 use Rattle.refusals.specs.declared.Verdict.the-variants.{Accepted}
 use Rattle.economizer_controller.specs.declared.types.EconomizerRow.{EconomizerRow}

@@ -13,7 +13,7 @@ use Rattle.logical.specs.Timer.{entryTime, elapsedTime}
 use Rattle.logical.specs.HeldTimer.{heldTimerNew, heldTimerOutput, heldTimerUpdate}
 use Rattle.logical.specs.TrueFalseHold.{trueFalseHoldNew, trueFalseHoldRequired, trueFalseHoldOutputAndTimer, trueFalseHoldOutput, trueFalseHoldUpdate}
 use Rattle.refusals.specs.Refusals.{judge}
-use Rattle.past.specs.Whole.{run}
+use Rattle.logical.specs.Run.{run}
 use Rattle.freeze_protection.specs.Verdict.{numbersFinite, freezeVerdict}
 use Rattle.freeze_protection.specs.Signals.{freezeCalls, freezeSignals, stageNumber}
 use Rattle.freeze_protection.specs.Commands.{freezeCommands}

@@ -6,7 +6,8 @@ use mathlib.Core.List.{List, [], _∷_, map}
 use lib.Ieee.{Float, binary64, sub, lt, le}
 use lib.IntN.{ℤ, pos}
 use Rattle.refusals.specs.declared.Verdict.the-variants.{Accepted}
-use Rattle.past.specs.Whole.{Told, run}
+use Rattle.logical.specs.Run.{run}
+use Rattle.past.specs.Whole.{Told}
 use Rattle.economizer_controller.specs.declared.types.EconomizerRow.{EconomizerRow}
 use Rattle.economizer_controller.specs.declared.types.EconomizerState.{EconomizerState}
 use Rattle.economizer_controller.specs.declared.types.EnableSignals.{EnableSignals}
@@ -14,7 +15,8 @@ use Rattle.economizer_controller.specs.Verdict.{economizerVerdict}
 use Rattle.economizer_controller.specs.Step.{economizerFresh, economizerSignals}
 use Rattle.economizer_controller.specs.Reading.{EconomizerReading}
 use Rattle.economizer_controller.specs.Told.{economizerTold, economizerReturned}
-use Rattle.cases.specs.Words.{seconds, kelvin, zero, minusOne, Number, number, taken}
+use Rattle.reals.specs.Constants.{whole}
+use Rattle.cases.specs.Words.{kelvin, zero, minusOne, Number, number, taken}
 
 -- the blocks of the enable pass at a row that is handed to a state
 abbrev pub enableAt : EconomizerState → EconomizerRow → EnableSignals
@@ -65,7 +67,7 @@ module _ (others : ℕ → EconomizerOthers) where
   economizerRowOf w =
       let o = others (w .time) in
       record {
-        time = seconds (w .time);
+        time = whole (w .time);
         «outdoor_airflow_normalized» = number (o .airflow);
         «minimum_outdoor_airflow_setpoint_normalized» = number (o .setpoint);
         «supply_temperature_signal» = number (o .signal);

@@ -2,13 +2,15 @@
 use Prim.Native.Nat.{ℕ}
 use mathlib.Core.Bool.{Bool, true, false}
 use mathlib.Core.List.{List, map}
-use Rattle.past.specs.Whole.{Told, run}
+use Rattle.logical.specs.Run.{run}
+use Rattle.past.specs.Whole.{Told}
 use Rattle.freeze_protection.specs.declared.types.FreezeRow.{FreezeRow}
 use Rattle.freeze_protection.specs.declared.types.FreezeSignals.{FreezeSignals}
 use Rattle.freeze_protection.specs.Signals.{freezeSignals}
 use Rattle.freeze_protection.specs.Step.{freezeFresh}
 use Rattle.freeze_protection.specs.Told.{freezeTold, freezeReturned}
-use Rattle.cases.specs.Words.{seconds, kelvin, Number, number}
+use Rattle.reals.specs.Constants.{whole}
+use Rattle.cases.specs.Words.{kelvin, Number, number}
 
 -- what a case says of a row: its time in seconds, its supply air in hundredths of a kelvin, its reset
 pub record Written : Type 0 where
@@ -39,7 +41,7 @@ module _ (others : ℕ → FreezeOthers) where
   freezeRowOf w =
       let o = others (w .time) in
       record {
-        time = seconds (w .time);
+        time = whole (w .time);
         «outdoor_damper_min_position» = number (o .outdoorDamperMinPosition);
         «outdoor_damper» = number (o .outdoorDamper);
         «heating_coil» = number (o .heatingCoil);

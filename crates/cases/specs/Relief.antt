@@ -18,7 +18,8 @@ use Rattle.relief_fan_group.specs.declared.types.ReliefAnswer.{ReliefAnswer}
 use Rattle.relief_fan_group.specs.declared.types.ReliefAnswer.the-variants as Answer
 use Rattle.relief_fan_group.specs.Step.{reliefRow}
 use Rattle.relief_fan_group.specs.Alarms.{speedsOf, dampersOf, withAlarm}
-use Rattle.cases.specs.Words.{seconds, zero}
+use Rattle.reals.specs.Constants.{whole}
+use Rattle.cases.specs.Words.{zero}
 
 -- of an answer, the refusal or a part of its commands
 abbrev pub told : {A : Type 0} → (ReliefCommands → A) → ReliefAnswer → Told A
@@ -43,4 +44,4 @@ pub record AlarmGuard (state : ReliefState) (row : ReliefRow) : Type 0 where
 -- ---- R4: a delay that waits 2 s on row 0 too: false on that row, at any time, and true later where its input has been on for 2 s
 pub record Waits (delay : TrueDelayOnInitState) : Type 0 where
   pub first : (start : Float) → trueDelayOnInitOutput delay start true ≡ false
-  pub later : (start t : Float) → trueDelayOnInitOutput (trueDelayOnInitUpdate delay start true) t true ≡ le (seconds 2) (sub binary64 t start)
+  pub later : (start t : Float) → trueDelayOnInitOutput (trueDelayOnInitUpdate delay start true) t true ≡ le (whole 2) (sub binary64 t start)

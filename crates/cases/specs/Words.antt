@@ -6,10 +6,6 @@ use lib.IntN.{ℤ}
 use lib.Ieee.{Float, fin, binary64, round}
 use Rattle.past.specs.Whole.{Told, Taken}
 
--- n seconds
-abbrev pub seconds : ℕ → Float
-seconds n = round binary64 false n 1
-
 -- n hundredths of a kelvin
 abbrev pub kelvin : ℕ → Float
 kelvin n = round binary64 false n 100

@@ -21,7 +21,8 @@ use Rattle.refusals.specs.declared.Verdict.{Verdict}
 use Rattle.refusals.specs.declared.Verdict.the-variants.{Accepted, Refused}
 use Rattle.past.specs.Acceptance.{lastTime}
 use Rattle.past.specs.Stepped.{stepped, inOrder}
-use Rattle.past.specs.Whole.{Told, toldBy, nextBy, run, readAll}
+use Rattle.logical.specs.Run.{run}
+use Rattle.past.specs.Whole.{Told, toldBy, nextBy, readAll}
 use Rattle.past.proofs.LevelReading.{hysteresisOf, hysteresis-new, hysteresis-output, hysteresis-update}
 use Rattle.past.proofs.HoldReading.{trueFalseHoldOf, true-false-hold-new, true-false-hold-output, true-false-hold-update}
 use Rattle.past.proofs.DelayReading.{trueDelayOf, true-delay-new, true-delay-output, true-delay-update}

@@ -33,7 +33,7 @@ outdoorAirCutoff = ofBits binary64 4643882357716575846
 abbrev pub holdDuration : Float
 holdDuration = ofBits binary64 4648488871632306176
 
--- the outdoor damper stays open for so long after the economizer is disabled
+-- the outdoor damper keeps its upper limit for so long after the economizer is disabled
 abbrev pub outdoorDelay : Float
 outdoorDelay = ofBits binary64 4624633867356078080
 

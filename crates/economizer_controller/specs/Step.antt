@@ -1,16 +1,13 @@
 -- A fresh state, a row's signals and commands, the state after an accepted row, and a row: its commands and the next state, or its refusal and the old state.
 -- Economizers.Controller with minOADes = SingleDamper and a relief damper, as `economizer_controller_trace` has it: the three passes in each row.
-use Prim.Native.Nat.{ℕ}
 use Rattle.reals.specs.declared.seen.Seen.the-variants.{Never, At}
 use Rattle.reals.specs.Pid.{pidWithResetNew, pidWithResetOutput, pidWithResetUpdate}
 use Rattle.refusals.specs.declared.Verdict.{Verdict}
 use Rattle.refusals.specs.declared.Verdict.the-variants.{Accepted, Refused}
-use Rattle.refusals.specs.Refusals.{refusalNumber}
 use Rattle.economizer_controller.specs.declared.types.EconomizerRow.{EconomizerRow}
 use Rattle.economizer_controller.specs.declared.types.EconomizerState.{EconomizerState}
 use Rattle.economizer_controller.specs.declared.types.EconomizerSignals.{EconomizerSignals}
 use Rattle.economizer_controller.specs.declared.types.EconomizerCommands.{EconomizerCommands}
-use Rattle.economizer_controller.specs.declared.types.EconomizerAnswer.{EconomizerAnswer}
 use Rattle.economizer_controller.specs.declared.types.EconomizerAnswer.the-variants as Answer
 use Rattle.economizer_controller.specs.declared.types.EconomizerStep.{EconomizerStep}
 use Rattle.economizer_controller.specs.Constants.{outdoorAirCutoff}
@@ -66,10 +63,6 @@ stepBy Accepted state row =
     let signals = economizerSignals state row in record { answer = Answer.Commands (economizerCommands row signals); state = economizerNext state row signals }
 stepBy (Refused refusal) state row = record { answer = Answer.Refused refusal; state = state }
 
+-- a row (document 01, 'What each row refuses'): what its verdict makes of it
 unfoldable pub economizerRow : EconomizerState → EconomizerRow → EconomizerStep
 economizerRow state row = stepBy (economizerVerdict state row) state row
-
--- the status of an answer: 0, or the paper's number of the refusal. The values of an accepted row are the fields of its commands, those of a refused one none.
-unfoldable pub economizerStatus : EconomizerAnswer → ℕ
-economizerStatus (Answer.Commands commands) = 0
-economizerStatus (Answer.Refused refusal) = refusalNumber refusal

@@ -1,6 +1,6 @@
 // A fresh state, a row's signals and commands, the state after an accepted row, and the row itself: the public operation of the economizer.
 ghost use mathlib.Core.Path.{_≡_};
-ghost use Rattle.economizer_controller.specs.Step.{economizerFresh, economizerSignals, economizerCommands, economizerNext, economizerRow, economizerStatus};
+ghost use Rattle.economizer_controller.specs.Step.{economizerFresh, economizerSignals, economizerCommands, economizerNext, economizerRow};
 use crate::damper_limits::damper_limits;
 use crate::damper_limits::minimum_outdoor_air_loop_enabled;
 use crate::enable::EnableState;
@@ -118,15 +118,5 @@ pub fn economizer_row(state: EconomizerState, row: EconomizerRow) -> EconomizerS
             answer: EconomizerAnswer::Refused(refusal),
             state,
         },
-    }
-}
-
-// The status of an answer: 0, or document 01's number of the refusal.
-pub fn economizer_status(answer: EconomizerAnswer) -> u64
-    ensures { λ r. ⌜ r ≡ economizerStatus answer ⌝ }
-{
-    match answer {
-        EconomizerAnswer::Commands(_) => 0,
-        EconomizerAnswer::Refused(refusal) => refusal.number(),
     }
 }

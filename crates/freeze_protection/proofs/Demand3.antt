@@ -10,7 +10,8 @@ use lib.Ieee.Scale.{finite}
 use Rattle.refusals.specs.declared.Verdict.{Verdict}
 use Rattle.refusals.specs.declared.Verdict.the-variants.{Accepted, Refused}
 use Rattle.past.specs.Stepped.{inOrder}
-use Rattle.past.specs.Whole.{Told, toldBy, nextBy, run, readAll}
+use Rattle.logical.specs.Run.{run}
+use Rattle.past.specs.Whole.{Told, toldBy, nextBy, readAll}
 use Rattle.past.proofs.Whole.{readNewest, read-at}
 use Rattle.past.proofs.Sequence.{sequence-reads}
 use Rattle.freeze_protection.specs.declared.types.FreezeRow.{FreezeRow}

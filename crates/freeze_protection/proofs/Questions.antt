@@ -1,6 +1,6 @@
 -- The insurer's questions about freeze protection, answered over all lists of rows from the reading. Assumes nothing.
 use Prim.Native.Nat.{ℕ}
-use mathlib.Core.Path.{_≡_, refl, sym, subst}
+use mathlib.Core.Path.{_≡_, refl}
 use mathlib.Core.Bool.{Bool, true, false, not, _&&_, _||_, cond}
 use mathlib.Core.List.{List, [], _∷_, _++_}
 use lib.Dec.{T}
@@ -18,17 +18,17 @@ use Rattle.past.specs.Whole.{nextBy, accepted}
 use Rattle.past.proofs.Laws.{since-step, latched-step, rises-step}
 use Rattle.past.proofs.RunLaws.{passed-step}
 use Rattle.past.proofs.TurnLaws.{hold-law}
-use Rattle.reals.specs.Constants.{plusZero}
+use Rattle.reals.specs.Constants.{plusZero, whole}
 use Rattle.reals.specs.Seen.{seenAbove}
 use Rattle.reals.specs.Sign.{isSignNegative, isTime}
-use Rattle.reals.proofs.FloatOrder.{le→not-lt}
+use Rattle.reals.proofs.FloatOrder.{le-trans, le→not-lt}
 use Rattle.reals.proofs.Truth.{table1, is-true}
 use Rattle.freeze_protection.specs.declared.types.FreezeRow.{FreezeRow}
 use Rattle.freeze_protection.specs.Constants.{coldStage2, coldStage3, band, fiveMinutes, fifteenMinutes, hour}
 use Rattle.freeze_protection.specs.Verdict.{numbersFinite}
 use Rattle.freeze_protection.specs.Signals.{stageNumber}
 use Rattle.freeze_protection.specs.Reading.{Past, timeOfRow, supplyOf, cold, passedFor, resetRow, holding, endOfHour, recovery, stage, stage1Call, stage3Call, verdictOf}
-use Rattle.freeze_protection.specs.Questions.{isAccepted, taken, tripped, stageAfter, rowAt, seconds, hourDropped, mildRows, newestTime, notFalling, calling}
+use Rattle.freeze_protection.specs.Questions.{isAccepted, taken, tripped, stageAfter, holdAfter, mild, mildAfter, rowAt, hourDropped, rowsOf278, newestTime, notFalling, calling}
 use Rattle.freeze_protection.proofs.Stages.{two-is}
 use Rattle.freeze_protection.proofs.Blocks.{cold-none, holding-none, hour-none, call3-none}
 
@@ -85,100 +85,127 @@ stage-2-ends x h e r =
     go false false true o = refl
     go false false false o = refl
 
--- ---- and there is no bound: after the hour was dropped (F5), stage 2 stands on any number of mild rows, at any later time
--- a row of 278 K is not cold at either level, whatever came before
-mild-cold : (l : Float) (t : Float) (h : Past) → lt (round binary64 false 27800 100) (add binary64 l band) ≡ false → lt (round binary64 false 27800 100) l ≡ false → cold l (rowAt t 27800 ∷ h) ≡ false
-unfolding cold
-mild-cold l t h e f = rw (since-step (λ s. lt (supplyOf s) (add binary64 l band)) (λ s. lt (supplyOf s) l) (rowAt t 27800) h, e, f) refl
+-- ---- and there is no bound: once its hold is off, stage 2 stands for as long as the accepted rows are mild
+-- a mild row is not below a level that is 276.45 K at the most, nor below that level and its band
+not-below : (x : FreezeRow) (l : Float) → T (le l (add binary64 coldStage2 band)) → T (mild x) → lt (x .«supply_air_temperature») l ≡ false
+not-below x l b m = le→not-lt (x .«supply_air_temperature») l (le-trans l (add binary64 coldStage2 band) (x .«supply_air_temperature») b m)
 
--- what holds after the hour was dropped, and goes on holding on mild rows
-record Mild (h : Past) : Type 0 where
-  released : holding h ≡ false
+mild-cold : (l : Float) (x : FreezeRow) (h : Past) → T (le (add binary64 l band) (add binary64 coldStage2 band)) → T (le l (add binary64 coldStage2 band)) → T (mild x) → cold l (x ∷ h) ≡ false
+unfolding cold
+mild-cold l x h b c m = rw (since-step (λ s. lt (supplyOf s) (add binary64 l band)) (λ s. lt (supplyOf s) l) x h, not-below x (add binary64 l band) b m, not-below x l c m) refl
+
+-- stage 2 stands and its hold is off; this goes on holding on mild rows
+record Released (h : Past) : Type 0 where
+  off : holding h ≡ false
   standing : latched holding endOfHour h ≡ true
   untripped : latched stage3Call resetRow h ≡ false
-
-abbrev mild : Float → FreezeRow
-mild t = rowAt t 27800
 
 either-false : (b : Bool) → cond b false false ≡ false
 either-false true = refl
 either-false false = refl
 
-module _ (t : Float) (h : Past) (m : Mild h) where
-  not-cold-2 : cold coldStage2 (mild t ∷ h) ≡ false
-  not-cold-2 = mild-cold coldStage2 t h (unfold lt add round ofBits in refl) (unfold lt round ofBits in refl)
+module _ (x : FreezeRow) (h : Past) (m : T (mild x)) (r : Released h) where
+  not-cold-2 : cold coldStage2 (x ∷ h) ≡ false
+  not-cold-2 = mild-cold coldStage2 x h (unfold le add ofBits in tt) (unfold le add ofBits in tt) m
 
-  not-cold-3 : cold coldStage3 (mild t ∷ h) ≡ false
-  not-cold-3 = mild-cold coldStage3 t h (unfold lt add round ofBits in refl) (unfold lt round ofBits in refl)
+  not-cold-3 : cold coldStage3 (x ∷ h) ≡ false
+  not-cold-3 = mild-cold coldStage3 x h (unfold le add ofBits in tt) (unfold le add ofBits in tt) m
 
-  not-passed : (n : Float) (u : Past → Bool) → u [] ≡ false → u (mild t ∷ h) ≡ false → passedFor n u (mild t ∷ h) ≡ false
-  not-passed n u e f = rw (passed-step timeOfRow u e n (mild t) h, f) refl
+  not-passed : (n : Float) (u : Past → Bool) → u [] ≡ false → u (x ∷ h) ≡ false → passedFor n u (x ∷ h) ≡ false
+  not-passed n u e f = rw (passed-step timeOfRow u e n x h, f) refl
 
-  still-released : holding (mild t ∷ h) ≡ false
+  still-off : holding (x ∷ h) ≡ false
   unfolding holding
-  still-released =
-      rw (hold-law timeOfRow hour plusZero (passedFor fiveMinutes (cold coldStage2)) (mild t) h, not-passed fiveMinutes (cold coldStage2) (cold-none coldStage2) not-cold-2, m .released)
-      (either-false (row0 (mild t ∷ h) || false))
+  still-off =
+      rw (hold-law timeOfRow hour plusZero (passedFor fiveMinutes (cold coldStage2)) x h, not-passed fiveMinutes (cold coldStage2) (cold-none coldStage2) not-cold-2, r .off)
+      (either-false (row0 (x ∷ h) || false))
 
-  no-end : endOfHour (mild t ∷ h) ≡ false
+  no-end : endOfHour (x ∷ h) ≡ false
   unfolding endOfHour
-  no-end = rw (rises-step (passedFor hour holding) hour-none (mild t) h, not-passed hour holding holding-none still-released) refl
+  no-end = rw (rises-step (passedFor hour holding) hour-none x h, not-passed hour holding holding-none still-off) refl
 
-  no-call : stage3Call (mild t ∷ h) ≡ false
+  no-call : stage3Call (x ∷ h) ≡ false
   unfolding stage3Call
   no-call = rw (not-passed fifteenMinutes (cold coldStage2) (cold-none coldStage2) not-cold-2, not-passed fiveMinutes (cold coldStage3) (cold-none coldStage3) not-cold-3) refl
 
-  mild-on : Mild (mild t ∷ h)
-  mild-on = record {
-    released = still-released;
-    standing = rw (latched-step holding endOfHour holding-none (mild t) h, no-end, m .standing) (go (holding (mild t ∷ h) && not (holding h)));
-    untripped = rw (latched-step stage3Call resetRow call3-none (mild t) h, no-call, m .untripped) refl;
+  released-on : Released (x ∷ h)
+  released-on = record {
+    off = still-off;
+    standing = rw (latched-step holding endOfHour holding-none x h, no-end, r .standing) (or-true (holding (x ∷ h) && not (holding h)));
+    untripped = rw (latched-step stage3Call resetRow call3-none x h, no-call, r .untripped) (and-false (not (x .«software_reset»)));
   }
     where
-      go : (c : Bool) → (c || true) ≡ true
-      go true = refl
-      go false = refl
+      or-true : (c : Bool) → (c || true) ≡ true
+      or-true true = refl
+      or-true false = refl
 
--- after the hour was dropped, and then any number of mild rows
-mild-start : Mild hourDropped
-unfolding holding endOfHour stage3Call cold hold values holdHere changes gaps turns passed latched rises since sinceWith some every lt le add sub round ofBits
-mild-start = record { released = refl; standing = refl; untripped = refl }
+      and-false : (b : Bool) → (b && false) ≡ false
+      and-false true = refl
+      and-false false = refl
 
--- those four rows are accepted
+module _ (l : List FreezeRow) (two : stageAfter l ≡ 2) (off : holdAfter l ≡ false) where
+  released-here : Released (accepted verdictOf l)
+  unfolding stageAfter holdAfter stage
+  released-here = let b = two-is _ _ _ two in record { off = off; standing = b .1; untripped = b .0 }
+
+  released-after : (m : List FreezeRow) → T (mildAfter m l) → Released (accepted verdictOf (m ++ l))
+  unfolding accepted
+  released-after [] t = released-here
+  released-after (x ∷ m) t =
+      by (verdictOf (accepted verdictOf (m ++ l)) x) (and-l (not (taken x (m ++ l)) || mild x) (mildAfter m l) t)
+      (released-after m (and-r (not (taken x (m ++ l)) || mild x) (mildAfter m l) t))
+    where
+      by : (v : Verdict) → T (not (isAccepted v) || mild x) → Released (accepted verdictOf (m ++ l)) → Released (nextBy v (x ∷ accepted verdictOf (m ++ l)) (accepted verdictOf (m ++ l)))
+      by Accepted t r = released-on x (accepted verdictOf (m ++ l)) t r
+      by (Refused c) t r = r
+
+  -- after any rows l that leave stage 2 with its hold off, and any rows m of which the accepted ones are mild, it is stage 2
+  pub stage-2-stands : (m : List FreezeRow) → T (mildAfter m l) → stageAfter (m ++ l) ≡ 2
+  unfolding stageAfter stage stageNumber
+  stage-2-stands m t = rw (released-after m t .untripped, released-after m t .standing) refl
+
+-- ---- F5 leaves it so
+-- its four rows are accepted
 dropped-taken : accepted verdictOf hourDropped ≡ hourDropped
 unfolding accepted verdictAfter judge numbersFinite seenAbove isSignNegative lt round ofBits
 dropped-taken = refl
 
--- so it holds of the accepted ones among those rows and any mild rows after them, whatever their times
-mild-rows : (ts : List Float) → Mild (accepted verdictOf (mildRows ts ++ hourDropped))
-unfolding accepted
-mild-rows [] = subst Mild (sym dropped-taken) mild-start
-mild-rows (t ∷ ts) = by (verdictOf (accepted verdictOf (mildRows ts ++ hourDropped)) (mild t)) (mild-rows ts)
+dropped-released : (stage hourDropped ≡ 2) × (holding hourDropped ≡ false)
+unfolding stage stageNumber stage1Call recovery holding endOfHour stage3Call cold hold values holdHere changes gaps turns passed latched rises since sinceWith some every lt le add sub round ofBits
+dropped-released = (refl, refl)
+
+pub hour-dropped : (stageAfter hourDropped ≡ 2) × (holdAfter hourDropped ≡ false)
+unfolding stageAfter holdAfter
+hour-dropped = rw dropped-taken dropped-released
+
+-- rows of 278 K from 3900 s on are mild, and are all accepted where their times do not fall
+pub mild-278 : (ts : List Float) → T (mildAfter (rowsOf278 ts) hourDropped)
+mild-278 [] = tt
+mild-278 (t ∷ ts) = both (not (taken (rowAt t 27800) (rowsOf278 ts ++ hourDropped))) (mild (rowAt t 27800)) (mildAfter (rowsOf278 ts) hourDropped) (unfold le add round ofBits in tt) (mild-278 ts)
   where
-    by : (v : Verdict) → Mild (accepted verdictOf (mildRows ts ++ hourDropped))
-        → Mild (nextBy v (mild t ∷ accepted verdictOf (mildRows ts ++ hourDropped)) (accepted verdictOf (mildRows ts ++ hourDropped)))
-    by Accepted m = mild-on t (accepted verdictOf (mildRows ts ++ hourDropped)) m
-    by (Refused r) m = m
+    both : (a b c : Bool) → T b → T c → T ((a || b) && c)
+    both true b c h k = k
+    both false true c h k = k
+    both false false c h k = absurd h
 
--- mild rows from 3900 s on are all accepted where their times do not fall
-mild-finite : (t : Float) → numbersFinite (mild t) ≡ (finite t)
+finite-278 : (t : Float) → numbersFinite (rowAt t 27800) ≡ finite t
 unfolding numbersFinite round ofBits
-mild-finite t = table1 (λ b. b && true && true && true && true && true && true && true && true && true) (λ b. b) tt (finite t)
+finite-278 t = table1 (λ b. b && true && true && true && true && true && true && true && true && true) (λ b. b) tt (finite t)
 
-not-earlier : (t : Float) (ts : List Float) → T (le (newestTime ts) t) → seenAbove (lastTime timeOfRow (mildRows ts ++ hourDropped)) t ≡ false
+not-earlier : (t : Float) (ts : List Float) → T (le (newestTime ts) t) → seenAbove (lastTime timeOfRow (rowsOf278 ts ++ hourDropped)) t ≡ false
 unfolding seenAbove
-not-earlier t [] l = le→not-lt t (seconds 3900) l
+not-earlier t [] l = le→not-lt t (whole 3900) l
 not-earlier t (u ∷ ts) l = le→not-lt t u l
 
-mild-taken : (t : Float) (ts : List Float) → T (isTime t) → T (le (newestTime ts) t) → verdictOf (mildRows ts ++ hourDropped) (mild t) ≡ Accepted
+taken-278 : (t : Float) (ts : List Float) → T (isTime t) → T (le (newestTime ts) t) → verdictOf (rowsOf278 ts ++ hourDropped) (rowAt t 27800) ≡ Accepted
 unfolding verdictAfter judge
-mild-taken t ts i l = rw (mild-finite t, is-true (finite t) (and-l (finite t) (not (isSignNegative t)) i), sign-off (isSignNegative t) (and-r (finite t) (not (isSignNegative t)) i), not-earlier t ts l) refl
+taken-278 t ts i l = rw (finite-278 t, is-true (finite t) (and-l (finite t) (not (isSignNegative t)) i), sign-off (isSignNegative t) (and-r (finite t) (not (isSignNegative t)) i), not-earlier t ts l) refl
   where
     sign-off : (b : Bool) → T (not b) → b ≡ false
     sign-off true h = absurd h
     sign-off false h = refl
 
-pub all-taken : (ts : List Float) → T (notFalling ts) → accepted verdictOf (mildRows ts ++ hourDropped) ≡ mildRows ts ++ hourDropped
+pub all-taken : (ts : List Float) → T (notFalling ts) → accepted verdictOf (rowsOf278 ts ++ hourDropped) ≡ rowsOf278 ts ++ hourDropped
 unfolding accepted
 all-taken [] r = dropped-taken
 all-taken (t ∷ ts) r =
@@ -186,10 +213,5 @@ all-taken (t ∷ ts) r =
     let q : T (le (newestTime ts) t && notFalling ts) = and-r (isTime t) (le (newestTime ts) t && notFalling ts) r in
     rw (
       all-taken ts (and-r (le (newestTime ts) t) (notFalling ts) q),
-      mild-taken t ts i (and-l (le (newestTime ts) t) (notFalling ts) q),
+      taken-278 t ts i (and-l (le (newestTime ts) t) (notFalling ts) q),
     ) refl
-
--- after the hour was dropped stage 2 still stands, however many mild rows come and whatever their times
-pub stage-2-stands : (ts : List Float) → stageAfter (mildRows ts ++ hourDropped) ≡ 2
-unfolding stageAfter stage stageNumber
-stage-2-stands ts = rw (mild-rows ts .untripped, mild-rows ts .standing) refl

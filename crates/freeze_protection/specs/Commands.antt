@@ -11,8 +11,9 @@ use Rattle.freeze_protection.specs.declared.types.FreezeCommands.{Freeze
 unfoldable pub integerSwitch : Bool → ℕ → ℕ → ℕ
 integerSwitch u a b = cond u a b
 
--- Stage 1: minimum outdoor air, heating coil by its loop, hot water request 2. Stage 2: both outdoor dampers 0, return damper 1, alarm 3.
--- Stage 3: fan off, speed 0, all three dampers 0, cooling coil 1, pump on, heating coil by its loop, hot water request 2, alarm 2. Else the inputs.
+-- Each latch switches what the lower ones leave (document 01, 'Stage 3: fan off, ..'). That of stage 1: outdoor damper at its minimum position, heating coil by its loop,
+-- hot water request 2. Of stage 2: both outdoor dampers 0, return damper 1, alarm 3. Of stage 3: fan off, speed 0, all three dampers 0, cooling coil 1, pump on, heating
+-- coil by its own loop, hot water request 2, alarm 2. Else the inputs, with the pump off, no request and no alarm.
 unfoldable pub freezeCommands : FreezeRow → FreezeSignals → FreezeCommands
 freezeCommands row signals =
     let one' = signals .«lat_y» in

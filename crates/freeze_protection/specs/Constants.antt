@@ -41,7 +41,7 @@ stage1Setpoint = ofBits binary64 4643618474925909606
 abbrev pub stage3Setpoint : Float
 stage3Setpoint = ofBits binary64 4643987910832842342
 
--- each beside its decimal; proofs/Constants.antt has the one fact
+-- each beside its decimal; proofs/Nearest.antt has the one fact
 abbrev pub constants : List Constant
 constants =
     record { value = coldStage1; negative = false; numerator = 27755; denominator = 100 }

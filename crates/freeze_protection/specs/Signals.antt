@@ -1,4 +1,5 @@
--- Every block's output at a row, in the order of FreezeProtection.mo (Buildings.Controls.OBC.ASHRAE.G36.AHUs.MultiZone.VAV.SetPoints.FreezeProtection).
+-- Every block's output at a row, in the order of `freeze_protection_trace`, with the names of FreezeProtection.mo
+-- (Buildings.Controls.OBC.ASHRAE.G36.AHUs.MultiZone.VAV.SetPoints.FreezeProtection).
 use Prim.Native.Nat.{ℕ}
 use mathlib.Core.Bool.{Bool, _||_, cond}
 use Rattle.reals.specs.Order.{greater}
@@ -44,8 +45,8 @@ freezeCalls state row =
 unfoldable pub stageNumber : Bool → Bool → Bool → ℕ
 stageNumber three two one = cond three 3 (cond two 2 (cond one 1 0))
 
--- the three latches, and the two heating loops. Guideline 36: stage 3 (lat1) holds from its call until the operator's reset; stage 2 (lat2) from its hold on
--- until the hour is over (tim5, endStaTwo); stage 1 (lat) from its call or the end of stage 2 until the supply air has recovered (endStaOne)
+-- the three latches, and the two heating loops. Stage 3 (lat1): from a rise of its call to a reset. Stage 2 (lat2): from a rise of its hold until the hold has been on
+-- for an hour (tim5, endStaTwo), which may never come (F5). Stage 1 (lat): from a rise of its call or of that end of stage 2 until the supply air has recovered (endStaOne)
 unfoldable pub freezeSignals : FreezeState → FreezeRow → FreezeSignals
 freezeSignals state row =
     let t = row .time in

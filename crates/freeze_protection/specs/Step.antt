@@ -76,5 +76,6 @@ unfoldable pub stepBy : Verdict → FreezeState → FreezeRow → FreezeStep
 stepBy Accepted state row = let signals = freezeSignals state row in record { answer = Answer.Commands (freezeCommands row signals); state = freezeNext state row signals }
 stepBy (Refused refusal) state row = record { answer = Answer.Refused refusal; state = state }
 
+-- a row (document 01, 'What each row refuses'): what its verdict makes of it
 unfoldable pub freezeRow : FreezeState → FreezeRow → FreezeStep
 freezeRow state row = stepBy (freezeVerdict state row) state row

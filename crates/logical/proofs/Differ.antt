@@ -6,8 +6,9 @@ use lib.Ieee.{Float, round, ofBits, sub, add, le, isNan}
 use Rattle.reals.specs.Seen.{seenNever, seenElapsed, seenGap}
 use Rattle.reals.specs.Switch.{switch}
 use Rattle.reals.specs.Order.{greater}
+use Rattle.reals.specs.Constants.{whole}
 use Rattle.logical.specs.declared.latch.LatchState.{LatchState}
-use Rattle.logical.specs.Run.{run, TimedInput, seconds, at, heldTimerRun, presentTimerRun, trueFalseHoldRun, trueDelayRun, trueDelayOnInitRun}
+use Rattle.logical.specs.Run.{run, TimedInput, at, heldTimerRun, presentTimerRun, trueFalseHoldRun, trueDelayRun, trueDelayOnInitRun}
 use Rattle.logical.specs.Latch.{latchOutput}
 use Rattle.logical.specs.Switch.{logicalSwitch}
 use Rattle.logical.specs.Timer.{entryTime, elapsedTime}
@@ -22,7 +23,7 @@ abbrev pub whileTimeFalls : List TimedInput
 whileTimeFalls = at 0 1 true ∷ at 300 1 true ∷ at 200 1 true ∷ []
 
 -- on the last row the held timer keeps the pass of 300 s, and the present timer has none
-pub timers-differ : (heldTimerRun (seconds 300 1) whileTimeFalls ≡ false ∷ true ∷ true ∷ []) × (presentTimerRun (seconds 300 1) whileTimeFalls ≡ false ∷ true ∷ false ∷ [])
+pub timers-differ : (heldTimerRun (whole 300) whileTimeFalls ≡ false ∷ true ∷ true ∷ []) × (presentTimerRun (whole 300) whileTimeFalls ≡ false ∷ true ∷ false ∷ [])
 unfolding heldTimerRun heldTimerNew heldTimerOutput heldTimerUpdate presentTimerRun presentTimerNew presentTimerOutput presentTimerUpdate run entryTime elapsedTime logicalSwitch switch seenElapsed le sub round ofBits
 timers-differ = (refl, refl)
 
@@ -37,13 +38,13 @@ shortGaps first later = at 3 10 first ∷ at 11 10 later ∷ at 6003 10 later �
 
 -- after a row with a false input, the economizer's delay adds the gaps, and that of the relief group takes the difference
 pub delays-measure-differently :
-    (trueDelayRun (seconds 600 1) (at 0 1 false ∷ shortGaps true true) ≡ false ∷ false ∷ false ∷ false ∷ [])
-    × (trueDelayOnInitRun (seconds 600 1) (at 0 1 false ∷ shortGaps true true) ≡ false ∷ false ∷ false ∷ true ∷ [])
+    (trueDelayRun (whole 600) (at 0 1 false ∷ shortGaps true true) ≡ false ∷ false ∷ false ∷ false ∷ [])
+    × (trueDelayOnInitRun (whole 600) (at 0 1 false ∷ shortGaps true true) ≡ false ∷ false ∷ false ∷ true ∷ [])
 unfolding trueDelayRun trueDelayNew trueDelayOutput trueDelayUpdate trueDelayNextTimer trueDelayOnInitRun trueDelayOnInitNew trueDelayOnInitOutput trueDelayOnInitUpdate run entryTime seenNever seenElapsed seenGap greater isNan switch le add sub round ofBits
 delays-measure-differently = (refl, refl)
 
 -- the hold adds the gaps: an input that turns false stays held
-pub hold-adds-gaps : (trueFalseHoldRun (seconds 600 1) (seconds 600 1) (shortGaps true false) ≡ true ∷ true ∷ true ∷ [])
+pub hold-adds-gaps : (trueFalseHoldRun (whole 600) (whole 600) (shortGaps true false) ≡ true ∷ true ∷ true ∷ [])
 unfolding trueFalseHoldRun trueFalseHoldNew trueFalseHoldOutput trueFalseHoldOutputAndTimer trueFalseHoldUpdate trueFalseHoldRequired run logicalSwitch switch seenNever seenGap greater isNan le add sub round ofBits
 hold-adds-gaps = refl
 

@@ -1,4 +1,4 @@
--- A block on its own, stepped over a list of rows from a fresh state on.
+-- A run over a list of rows; and each timer, hold and delay on its own, run from a fresh state on.
 use Prim.Native.Nat.{ℕ}
 use mathlib.Core.Bool.{Bool, false}
 use mathlib.Core.List.{List, [], _∷_}
@@ -9,23 +9,19 @@ use Rattle.logical.specs.TrueFalseHold.{trueFalseHoldNew, trueFalseHoldO
 use Rattle.logical.specs.TrueDelay.{trueDelayNew, trueDelayOutput, trueDelayUpdate}
 use Rattle.logical.specs.TrueDelayOnInit.{trueDelayOnInitNew, trueDelayOnInitOutput, trueDelayOnInitUpdate}
 
--- the block's outputs, in order: each row gets the state that the row before left
-unfoldable pub run : {S I O : Type 0} → (S → I → O) → (S → I → S) → S → List I → List O
-run output update s [] = []
-run output update s (x ∷ rows) = output s x ∷ run output update (update s x) rows
-
--- n / d seconds, rounded once
-abbrev pub seconds : ℕ → ℕ → Float
-seconds n d = round binary64 false n d
+-- a run of a block or a sequence, its answers in order: the first row gets the state s, each later row exactly what the row before returned
+unfoldable pub run : {S R B : Type 0} → (S → R → B) → (S → R → S) → S → List R → List B
+run answer next s [] = []
+run answer next s (x ∷ rows) = answer s x ∷ run answer next (next s x) rows
 
 -- a row of a timer, a hold or a delay
 pub record TimedInput : Type 0 where
   pub time : Float
   pub u : Bool
 
--- input u at n / d seconds
+-- input u at n / d seconds, rounded once
 abbrev pub at : ℕ → ℕ → Bool → TimedInput
-at n d u = record { time = seconds n d; u = u }
+at n d u = record { time = round binary64 false n d; u = u }
 
 -- the passed marks of the two timers with this threshold
 unfoldable pub heldTimerRun : Float → List TimedInput → List Bool

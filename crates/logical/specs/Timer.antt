@@ -12,6 +12,7 @@ use Rattle.reals.specs.Switch.{switch}
 unfoldable pub entryTime : Seen → Bool → Float → Bool → Seen
 entryTime entry preU t u = cond u (cond preU entry (At t)) Never
 
--- time minus entryTime; 0 where u is false or has just risen: y in both `TimerState::output`
+-- time minus entryTime; 0 where u is false or has just risen: `y` in `TimerState::output` of freeze_protection.rs; relief_fan_group.rs tests it only where it is
+-- a difference
 unfoldable pub elapsedTime : Seen → Bool → Float → Bool → Float
 elapsedTime entry preU t u = switch (u && preU) (seenElapsed entry t) plusZero

@@ -10,7 +10,7 @@ use lib.IntN.{ℤ, pos}
 use lib.Ieee.{Float, nan, inf, fin, binary64, up, down, add, sub, sum, mul, div, neg, le, lt, eq, isNan, round, ofBits}
 use lib.Ieee.Fits.{down-pos, up-pos}
 use lib.Ieee.Scale.{finite}
-use Rattle.reals.specs.Constants.{plusZero}
+use Rattle.reals.specs.Constants.{plusZero, whole}
 use Rattle.reals.specs.Order.{greater}
 use Rattle.reals.specs.Seen.{seenNever, seenElapsed}
 use Rattle.reals.specs.Sign.{isSignNegative}
@@ -89,10 +89,7 @@ unfolding movingAverageOutput movingAverageNew startTime muNow seenNever seenEla
 first-mean t u a b = rw (first-mu u b, self-gap plusZero zero-finite) (zero-quotient (averagedTime t t t) (first-above t a))
 
 -- ---- R2: second row, 15 s later, pressure 18
-abbrev pub seconds : ℕ → Float
-seconds k = round binary64 false k 1
-
-pub second-mean : (u : Float) → T (finite u) → movingAverageOutput (movingAverageUpdate movingAverageNew (seconds 0) u) (seconds 15) (seconds 18) ≡ div binary64 (seconds 270) (add binary64 (seconds 15) startOffset)
+pub second-mean : (u : Float) → T (finite u) → movingAverageOutput (movingAverageUpdate movingAverageNew (whole 0) u) (whole 15) (whole 18) ≡ div binary64 (whole 270) (add binary64 (whole 15) startOffset)
 unfolding movingAverageOutput movingAverageUpdate movingAverageStored movingAverageNew movingAverageIsFull startTime muNow seenNever seenElapsed
 second-mean u h =
     rw (first-mu u h)

@@ -5,8 +5,7 @@ use mathlib.Core.List.{List, [], _∷_}
 use lib.Dec.{eqb}
 use lib.ListN.{length}
 use lib.Ieee.{Float, le, lt, eq}
-use lib.Ieee.Scale.{finite}
-use Rattle.reals.specs.Sign.{isSignNegative}
+use Rattle.reals.specs.Sign.{isTime}
 use Rattle.moving_average.specs.declared.state.MovingAverageState.{MovingAverageState}
 use Rattle.moving_average.specs.Constants.{capacity}
 use Rattle.moving_average.specs.State.{cutoff, movingAverageNew, movingAverageUpdate}
@@ -50,7 +49,7 @@ belowLast (p ∷ h) t = lt t p
 
 -- what refusals 1 to 3 ask of the time: it is finite, its sign bit is clear, and it is not below the last accepted time
 abbrev pub timeAccepted : List Float → Float → Bool
-timeAccepted h t = (finite t && not (isSignNegative t)) && not (belowLast h t)
+timeAccepted h t = isTime t && not (belowLast h t)
 
 -- each row of the past was accepted, as far as its time tells
 unfoldable pub accepted : List Float → Bool

@@ -9,15 +9,16 @@ use Rattle.reals.specs.Seen.{seenNever, seenGap}
 use Rattle.reals.specs.Switch.{switch}
 use Rattle.logical.specs.declared.true_delay.TrueDelayState.{TrueDelayState}
 use Rattle.logical.specs.TrueDelay.{trueDelayNew, trueDelayNextTimer, trueDelayOutput, trueDelayUpdate}
+use Rattle.past.specs.Acceptance.{lastTime}
 use Rattle.past.specs.Runs.{timeOf, delayed}
 use Rattle.past.specs.Stepped.{stepped, inOrder}
 use Rattle.past.proofs.RunLaws.{runGaps, delayed-step, delayed-none}
-use Rattle.past.proofs.Stepped.{stepped-in-order, seenOf, gap-here}
+use Rattle.past.proofs.Stepped.{stepped-in-order, gap-here}
 
 -- u is false before row 0, and the delay n is above 0
 module _ {A : Type 0} (time : A → Float) (n : Float) (u : List A → Bool) (e : u [] ≡ false) (positive : le n plusZero ≡ false) where
   abbrev pub trueDelayOf : List A → TrueDelayState
-  trueDelayOf h = record { «previous_time» = seenOf time h; «previous_input» = u h; «held_output» = delayed time n u h; timer = cond (delayed time n u h) n (runGaps time u e h) }
+  trueDelayOf h = record { «previous_time» = lastTime time h; «previous_input» = u h; «held_output» = delayed time n u h; timer = cond (delayed time n u h) n (runGaps time u e h) }
 
   pub true-delay-new : trueDelayNew ≡ trueDelayOf []
   unfolding trueDelayNew

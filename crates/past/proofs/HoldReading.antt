@@ -13,12 +13,13 @@ use Rattle.logical.specs.declared.true_false_hold.TrueFalseHoldState.{TrueFalse
 use Rattle.logical.specs.declared.true_false_hold.TrueFalseHoldOutput.{TrueFalseHoldOutput}
 use Rattle.logical.specs.Switch.{logicalSwitch}
 use Rattle.logical.specs.TrueFalseHold.{trueFalseHoldNew, trueFalseHoldRequired, trueFalseHoldOutputAndTimer, trueFalseHoldOutput, trueFalseHoldUpdate}
+use Rattle.past.specs.Acceptance.{lastTime}
 use Rattle.past.specs.Past.{sinceWith}
 use Rattle.past.specs.Runs.{timeOf, gaps}
 use Rattle.past.specs.Turns.{values, turns, changes, holdHere, hold}
 use Rattle.past.specs.Stepped.{stepped, inOrder}
 use Rattle.past.proofs.Laws.{sinceWith-step}
-use Rattle.past.proofs.Stepped.{stepped-in-order, seenOf, gap-here}
+use Rattle.past.proofs.Stepped.{stepped-in-order, gap-here}
 
 -- `fall` seconds are required to fall and `rise` to rise, neither below 0
 module _ {A : Type 0} (time : A → Float) (fall rise : Float) (u : List A → Bool) where
@@ -34,7 +35,7 @@ module _ {A : Type 0} (time : A → Float) (fall rise : Float) (u : List A → B
   holdElapsed (x ∷ h) = cond (turns (holds (x ∷ h))) plusZero (add binary64 (holdElapsed h) (sub binary64 (time x) (timeOf time h)))
 
   abbrev pub trueFalseHoldOf : List A → TrueFalseHoldState
-  trueFalseHoldOf h = record { held = held h; timer = holdElapsed h; «prev_t» = seenOf time h; «true_hold_duration» = fall; «false_hold_duration» = rise }
+  trueFalseHoldOf h = record { held = held h; timer = holdElapsed h; «prev_t» = lastTime time h; «true_hold_duration» = fall; «false_hold_duration» = rise }
 
   pub true-false-hold-new : trueFalseHoldNew fall rise ≡ trueFalseHoldOf []
   unfolding trueFalseHoldNew hold values holdElapsed

@@ -15,8 +15,9 @@ use Rattle.refusals.specs.declared.Refusal.{Refusal}
 use Rattle.refusals.specs.declared.Refusal.the-variants.{NotFinite, NegativeTime, FallingTime}
 use Rattle.refusals.specs.declared.Verdict.the-variants.{Accepted, Refused}
 use Rattle.refusals.specs.Refusals.{judge}
+use Rattle.past.specs.Acceptance.{lastTime}
 use Rattle.past.specs.Stepped.{notBefore, inOrder}
-use Rattle.past.proofs.Stepped.{seenOf, time-here}
+use Rattle.past.proofs.Stepped.{time-here}
 
 finite-number : (x : Float) → T (finite x) → isNan x ≡ false
 unfolding isNan
@@ -42,15 +43,15 @@ judged false b c e = absurd (refused-is-not-accepted NotFinite e)
 
 module _ {R : Type 0} (time : R → Float) (allFinite : R → Bool) (time-finite : (x : R) → T (allFinite x) → T (finite (time x))) where
   -- refusal 3 leaves a time that is not below the one before
-  not-before : (t : Float) → isNan t ≡ false → (h : List R) → T (inOrder time h) → seenAbove (seenOf time h) t ≡ false → T (notBefore time t h)
+  not-before : (t : Float) → isNan t ≡ false → (h : List R) → T (inOrder time h) → seenAbove (lastTime time h) t ≡ false → T (notBefore time t h)
   unfolding seenAbove
   not-before t a [] o e = tt
   not-before t a (y ∷ h) o e = not-lt→le t (time y) a (time-number (time y) (time-here time y h o)) e
 
-  pub judged-in-order : (x : R) (h : List R) → T (inOrder time h) → judge (allFinite x) (time x) (seenOf time h) ≡ Accepted → T (inOrder time (x ∷ h))
+  pub judged-in-order : (x : R) (h : List R) → T (inOrder time h) → judge (allFinite x) (time x) (lastTime time h) ≡ Accepted → T (inOrder time (x ∷ h))
   unfolding judge
   judged-in-order x h o e =
-      let tests = judged (allFinite x) (isSignNegative (time x)) (seenAbove (seenOf time h) (time x)) e in
+      let tests = judged (allFinite x) (isSignNegative (time x)) (seenAbove (lastTime time h) (time x)) e in
       let f : T (finite (time x)) = time-finite x (tests .0) in
       and-i (isTime (time x) && notBefore time (time x) h) (inOrder time h)
       (and-i (isTime (time x)) (notBefore time (time x) h) (and-i (finite (time x)) (not (isSignNegative (time x))) f (rw (tests .1) tt)) (not-before (time x) (finite-number (time x) f) h o (tests .2))) o

@@ -10,10 +10,10 @@ use Rattle.reals.specs.declared.seen.Seen.{Seen}
 use Rattle.refusals.specs.declared.Verdict.{Verdict}
 use Rattle.refusals.specs.declared.Verdict.the-variants.{Accepted, Refused}
 use Rattle.refusals.specs.Refusals.{judge}
+use Rattle.logical.specs.Run.{run}
 use Rattle.past.specs.Acceptance.{lastTime, verdictAfter}
 use Rattle.past.specs.Stepped.{inOrder}
-use Rattle.past.specs.Whole.{Told, Taken, toldBy, nextBy, run, readAll}
-use Rattle.past.proofs.Stepped.{seenOf}
+use Rattle.past.specs.Whole.{Told, Taken, toldBy, nextBy, readAll}
 use Rattle.past.proofs.Judged.{judged-in-order}
 use Rattle.past.proofs.Whole.{run-reads}
 
@@ -27,14 +27,10 @@ next-where-accepted Accepted a b old f = f refl
 next-where-accepted (Refused r) a b old f = refl
 
 module _ {R : Type 0} (time : R → Float) (allFinite : R → Bool) (time-finite : (x : R) → T (allFinite x) → T (finite (time x))) where
-  last-seen : (h : List R) → lastTime time h ≡ seenOf time h
-  last-seen [] = refl
-  last-seen (x ∷ h) = refl
-
   -- an accepted row keeps the times in order
   pub in-order : (x : R) (h : List R) → T (inOrder time h) → verdictAfter time allFinite h x ≡ Accepted → T (inOrder time (x ∷ h))
   unfolding verdictAfter
-  in-order x h o e = judged-in-order time allFinite time-finite x h o (rw (last-seen h) at e)
+  in-order x h o e = judged-in-order time allFinite time-finite x h o e
 
   -- `last` is the last accepted time that a state keeps; `value` is what an accepted row tells, and `after` the state that it leaves
   module _ {S Y : Type 0} (last : S → Seen) (value : S → R → Y) (after : S → R → S) where

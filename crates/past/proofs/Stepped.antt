@@ -9,8 +9,6 @@ use lib.Ieee.Fits.{and-l, and-r}
 use Rattle.reals.specs.Constants.{plusZero}
 use Rattle.reals.specs.Order.{greater}
 use Rattle.reals.specs.Sign.{isTime, isSignNegative}
-use Rattle.reals.specs.declared.seen.Seen.{Seen}
-use Rattle.reals.specs.declared.seen.Seen.the-variants.{Never, At}
 use Rattle.reals.proofs.Times.{gap-kept}
 use Rattle.past.specs.Stepped.{stepped, notBefore, inOrder}
 
@@ -26,11 +24,6 @@ module _ {A S : Type 0} (new : S) (update : S → List A → S) (of : List A →
   stepped-in-order time e f (x ∷ h) o = rw (stepped-in-order time e f h (and-r (isTime (time x) && notBefore time (time x) h) (inOrder time h) o)) (f x h o)
 
 module _ {A : Type 0} (time : A → Float) where
-  -- the time of the newest row, if there is one
-  abbrev pub seenOf : List A → Seen
-  seenOf [] = Never
-  seenOf (x ∷ h) = At (time x)
-
   pub time-here : (x : A) (h : List A) → T (inOrder time (x ∷ h)) → T (isTime (time x))
   time-here x h o = and-l (isTime (time x)) (notBefore time (time x) h) (and-l (isTime (time x) && notBefore time (time x) h) (inOrder time h) o)
 

@@ -9,7 +9,8 @@ use lib.Dec.{T}
 use lib.ListN.{length, getD, take}
 use Rattle.refusals.specs.declared.Verdict.{Verdict}
 use Rattle.refusals.specs.declared.Verdict.the-variants.{Accepted, Refused}
-use Rattle.past.specs.Whole.{Told, toldBy, nextBy, run, accepted, readAt, readAll}
+use Rattle.logical.specs.Run.{run}
+use Rattle.past.specs.Whole.{Told, toldBy, nextBy, accepted, readAt, readAll}
 
 -- S is the state, R the row and Y what is read; `good` says what holds of accepted rows
 module _ {S R Y : Type 0}

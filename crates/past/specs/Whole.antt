@@ -1,10 +1,10 @@
--- Whole lists of rows, refused ones included (document 01, 'The past, read without state'): what a run gives at each place, and what the list alone tells there.
+-- Whole lists of rows, refused ones included (document 01, 'The past, read without state'): what the list alone tells at each place. What a run gives there: `run` of logical.
 use mathlib.Core.List.{List, [], _∷_}
 use Rattle.refusals.specs.declared.Refusal.{Refusal}
 use Rattle.refusals.specs.declared.Verdict.{Verdict}
 use Rattle.refusals.specs.declared.Verdict.the-variants.{Accepted, Refused}
 
--- what a row's answer tells: a refusal, or a value (the stage; enable and delays; pulses) of an accepted row
+-- what a row's answer tells: a refusal, or a value (the stage; enable and delays; the mean and the pulses) of an accepted row
 pub data Told (Y : Type 0) : Type 0 where
   NotTaken : Refusal → Told Y
   Taken : Y → Told Y
@@ -18,11 +18,6 @@ toldBy (Refused r) v = NotTaken r
 abbrev pub nextBy : {S : Type 0} → Verdict → S → S → S
 nextBy Accepted next old = next
 nextBy (Refused r) next old = old
-
--- a run: the first row gets the state s, each later row exactly what the row before returned
-unfoldable pub run : {S R B : Type 0} → (S → R → B) → (S → R → S) → S → List R → List B
-run answer next s [] = []
-run answer next s (x ∷ rows) = answer s x ∷ run answer next (next s x) rows
 
 -- `verdict h x` is the refusal, if any, that fits row x after the accepted rows h
 module _ {R : Type 0} (verdict : List R → R → Verdict) where

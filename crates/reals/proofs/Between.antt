@@ -8,13 +8,8 @@ use lib.Ieee.Scale.{finite}
 use Rattle.reals.specs.Limits.{clamp}
 use Rattle.reals.specs.Order.{greater, lesser}
 use Rattle.reals.specs.Switch.{switch}
-use Rattle.reals.proofs.Truth.{holds}
-use Rattle.reals.proofs.FloatOrder.{le-numbers, lt→le, not-lt→le, eq→le, self-equal}
+use Rattle.reals.proofs.FloatOrder.{le-numbers, lt→le, not-lt→le, le-refl}
 use Rattle.reals.proofs.Round.{plain, round-plain, neg-round}
-
--- a number is at most itself
-le-self : (x : Float) → isNan x ≡ false → T (le x x)
-le-self x number = eq→le x x (holds (eq x x) (rw (self-equal x, number) refl)) .0
 
 -- ---- the lesser of two
 -- it is at most the second, if that is a number, whatever the first is
@@ -23,8 +18,8 @@ unfolding lesser switch
 lesser-at-most a m number = go (isNan a) (lt m a) (not-lt→le m a number)
   where
     go : (n l : Bool) → (n ≡ false → l ≡ false → T (le a m)) → T (le (cond n m (cond l m a)) m)
-    go true l f = le-self m number
-    go false true f = le-self m number
+    go true l f = le-refl m number
+    go false true f = le-refl m number
     go false false f = f refl refl
 
 -- a NaN that stands first is passed over, and so is one that stands second
@@ -45,7 +40,7 @@ clamp-above u min max b = rw (le-numbers min max b .0) (go (lt min (lesser u max
   where
     go : (l : Bool) → (T l → T (le min (lesser u max))) → T (le min (cond l (lesser u max) min))
     go true f = f tt
-    go false f = le-self min (le-numbers min max b .0)
+    go false f = le-refl min (le-numbers min max b .0)
 
 clamp-below : (u min max : Float) → T (le min max) → T (le (clamp u min max) max)
 unfolding clamp greater switch

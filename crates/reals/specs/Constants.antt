@@ -20,6 +20,10 @@ nineTenths = ofBits binary64 4606281698874543309
 abbrev pub minusOne : Float
 minusOne = ofBits binary64 13830554455654793216
 
+-- a whole number, as of seconds, rounded once
+abbrev pub whole : ℕ → Float
+whole n = round binary64 false n 1
+
 -- a constant beside the decimal fraction that it stands for: numerator / denominator, below 0 where `negative`
 pub record Constant : Type 0 where
   pub value : Float

@@ -1,4 +1,4 @@
--- The two hysteresis blocks. They part at a NaN: the model's falls, the one of cdl_recurrences.rs keeps its output.
+-- The two hysteresis blocks. With uLow ≤ uHigh they part only at a NaN: the model's falls, the one of cdl_recurrences.rs keeps its output.
 use mathlib.Core.Bool.{Bool, false, not, _&&_, _||_}
 use lib.Ieee.{Float, lt, le}
 use Rattle.reals.specs.declared.hysteresis.HysteresisState.{HysteresisState}

@@ -1,4 +1,4 @@
--- The definitions of `reals`, one module for each of src/, and the constants.
+-- The definitions of `reals`: a module for each piece of src/ (both hystereses in one, both loops in one), arrays of four, and the constants.
 pub mod Constants
 pub mod Order
 pub mod Sign

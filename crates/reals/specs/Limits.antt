@@ -1,9 +1,11 @@
--- Limiters (CDL.Reals.Limiter). For numbers and min ≤ max both give the point of min .. max that is nearest; they part where a NaN stands.
+-- Limiters (CDL.Reals.Limiter). For numbers and min ≤ max both give the point of min .. max that is nearest. They part at a NaN, in the sign where
+-- x and min are zeros of two signs, and where min > max.
 use lib.Ieee.{Float, lt}
 use Rattle.reals.specs.Order.{greater, lesser}
 use Rattle.reals.specs.Switch.{switch}
 
 -- `f64::clamp` of the Rust standard library: raised to min where below it, then lowered to max where above. A NaN is neither, and stays.
+-- Where min > max or a limit is a NaN, the Rust panics.
 unfoldable pub limit : Float → Float → Float → Float
 limit x min max = let raised = switch (lt x min) min x in switch (lt max raised) max raised
 

@@ -30,7 +30,7 @@ yMax = one
 unfoldable pub pidUnlimited : Float → Float → Float
 pidUnlimited error integral = add binary64 (mul binary64 k error) integral
 
--- the integral one step of dt seconds later: k / Ti times the error, less (unlimited − limited) / (k · Ni), times dt
+-- the integral one step of dt seconds later: it grows by k / Ti · (error − (unlimited − limited) / (k · Ni)) · dt
 unfoldable pub pidIntegrated : Float → Float → Float → Float → Float → Float
 pidIntegrated integral error unlimited limited dt =
     let corrected = sub binary64 error (div binary64 (sub binary64 unlimited limited) (mul binary64 k ni)) in

@@ -3,7 +3,8 @@ use mathlib.Core.Bool.{Bool, false, not, _&&_}
 use lib.Ieee.{Float, nan, inf, fin}
 use lib.Ieee.Scale.{finite}
 
--- the sign bit (`f64::is_sign_negative`): set in -0.0 too. There is one NaN and it has no sign, so it is asked only of numbers.
+-- the sign bit (`f64::is_sign_negative`): set in -0.0 too. There is one NaN, without a sign: it counts as not set, and a row with a NaN is refused before its time's
+-- sign is asked.
 unfoldable pub isSignNegative : Float → Bool
 isSignNegative nan = false
 isSignNegative (inf s) = s

@@ -15,9 +15,9 @@ use Rattle.relief_fan_group.specs.declared.types.ReliefRow.{ReliefRow}
 use Rattle.relief_fan_group.specs.declared.types.ReliefBlocks.{ReliefBlocks}
 use Rattle.relief_fan_group.specs.declared.types.ReliefSignals.{ReliefSignals}
 use Rattle.relief_fan_group.specs.Signals.{pressureControl, damperEnable, stageUp, stageDown, reliefSignals}
-use Rattle.relief_fan_group.specs.Commands.{reliefCommands}
+use Rattle.relief_fan_group.specs.Commands.{openedOf, reliefCommands}
 use Rattle.relief_fan_group.specs.Step.{reliefNext}
-use Rattle.relief_fan_group.specs.Alarms.{speedsOf, dampersOf, openedOf, withAlarm}
+use Rattle.relief_fan_group.specs.Alarms.{speedsOf, dampersOf, withAlarm}
 
 at : (f : ℕ → Float) (i : ℕ) → i < 4 → real (each4 f) i ≡ f i
 at f zero l = refl

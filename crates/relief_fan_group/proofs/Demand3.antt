@@ -17,7 +17,8 @@ use Rattle.refusals.specs.declared.Verdict.{Verdict}
 use Rattle.refusals.specs.declared.Verdict.the-variants.{Accepted, Refused}
 use Rattle.past.specs.Stepped.{notBefore, inOrder}
 use Rattle.past.specs.Acceptance.{verdictAfter}
-use Rattle.past.specs.Whole.{Told, toldBy, nextBy, run, readAll}
+use Rattle.logical.specs.Run.{run}
+use Rattle.past.specs.Whole.{Told, toldBy, nextBy, readAll}
 use Rattle.past.specs.Whole as whole
 use Rattle.past.proofs.Stepped.{time-here}
 use Rattle.past.proofs.Whole.{good-accepted, run-reads, read-at, readNewest}

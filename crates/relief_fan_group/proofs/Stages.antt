@@ -232,6 +232,11 @@ pub stage-up-on : (proof : List Bool) (up : StageUp) (down : StageDown) → up .
 unfolding fansOn switchEach logicalSwitch
 stage-up-on proof up down e = rw e refl
 
+-- while the stage-down latch alone is on and some fan is proven, they are those that a stage down has on
+pub stage-down-on : (proof : List Bool) (up : StageUp) (down : StageDown) → up .«lat2_y» ≡ false → up .«all_fans_off» ≡ false → down .«lat1_y» ≡ true → fansOn proof up down ≡ each4 (flag (down .xor))
+unfolding fansOn switchEach logicalSwitch
+stage-down-on proof up down e f d = rw (e, f, d) refl
+
 -- ---- no list of fewer than three accepted rows has an up pulse: row 0 has the mean 0, so it makes no request
 first-loop : (x : ReliefRow) → T (finite (x .time)) → T (finite (x .pressure)) → lt stageUpLevel (loopOf (x ∷ [])) ≡ false
 unfolding mean movingAverageOf pressureLoop

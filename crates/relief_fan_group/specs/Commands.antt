@@ -17,14 +17,17 @@ use Rattle.relief_fan_group.specs.declared.types.ReliefCommands.{ReliefC
 unfoldable pub fansOn : List Bool → StageUp → StageDown → List Bool
 fansOn proof up down = switchEach (up .«lat2_y») (up .or2) (switchEach (up .«all_fans_off») proof (switchEach (down .«lat1_y») (down .xor) proof))
 
--- the mean; the speed of each fan that is on, 0 where no fan is enabled; the dampers of the fans that are on, or, where none is, those of stage zero, behind the alarm
--- guard
+-- logSwi2, the dampers commanded open, before the alarm guard: those of the fans that are on, or, where none is, those of stage zero
+abbrev pub openedOf : ReliefRow → ReliefSignals → List Bool
+openedOf row signals = let on = fansOn (row .proof) (signals .up) (signals .down) in switchEach (anyOf on) on (signals .dampers .«ena_dam»)
+
+-- the mean; the speed of each fan that is on, 0 where no fan is enabled; the dampers, behind the alarm guard
 unfoldable pub reliefCommands : ReliefRow → ReliefSignals → ReliefCommands
 reliefCommands row signals =
     let control = signals .control in
     let on = fansOn (row .proof) (signals .up) (signals .down) in
     let speeds = fanSpeed (switch (control .«any_enabled») (control .«gated_controller») plusZero) on in
-    let opened = damper (switchEach (anyOf on) on (signals .dampers .«ena_dam»)) (row .alarm) (row .proof) in
+    let opened = damper (openedOf row signals) (row .alarm) (row .proof) in
     record {
       «averaged_pressure» = control .average;
       «fan_speed_1» = real speeds 0;

@@ -1,5 +1,5 @@
--- Every block's output at a row, in the order of ReliefFanGroup.mo (Buildings.Controls.OBC.ASHRAE.G36.AHUs.MultiZone.VAV.SetPoints.ReliefFanGroup) as
--- relief_fan_group.rs has it.
+-- Every block's output at a row, with the names of ReliefFanGroup.mo (Buildings.Controls.OBC.ASHRAE.G36.AHUs.MultiZone.VAV.SetPoints.ReliefFanGroup), as
+-- `relief_fan_group_trace` works them.
 use mathlib.Core.Bool.{_&&_, _||_}
 use lib.Ieee.{Float, binary64, sub, mul, div}
 use Rattle.reals.specs.Constants.{plusZero, one}
@@ -57,8 +57,9 @@ damperEnable blocks row control =
       «ena_dam» = andEach (thresholdOutputs (blocks .«gre_thr1») (control .gai)) (latchOutput (blocks .lat) opening clear);
     }
 
--- stage up. The next fan is the one with the smallest order among those not proven on (lesThr1 marks the others); or2: the fans that should then be on; each has
--- 2 s (truDel) before its proof is asked. The up pulse: 7 minutes (upTim) of requests (greThr2) with no pulse on the row before (pre). The pulse sets the stage latch
+-- stage up. The next fan has the smallest order: while some fan is proven on, of the fans enabled and not proven on (lesThr1 marks the others); while all are off, of
+-- all four (swi3), so that where one supply fan is off both fans of that supply, whose order is 0, are next. or2: the fans that should then be on; each has 2 s (truDel)
+-- before its proof is asked. The up pulse: 7 minutes (upTim) of requests (greThr2) with no pulse on the row before (pre). The pulse sets the stage latch
 -- (lat2), and it is cleared where the delayed start of every fan equals its proof
 unfoldable pub stageUp : ReliefBlocks → ReliefRow → PressureControl → StageUp
 stageUp blocks row control =
@@ -82,7 +83,7 @@ stageUp blocks row control =
       «lat2_y» = latchOutput (blocks .lat2) pulse proven;
     }
 
--- stage down. The next fan is the one with the smallest order among those proven on (lesThr4 marks the others); xor: the fans that should then be on; 2 s (truDel1).
+-- stage down. The next fan is the one with the smallest order among those enabled and proven on (lesThr4 marks the others); xor: the fans that should then be on; 2 s (truDel1).
 -- The down pulse: 5 minutes (dowTim) of requests (lesThr3) with no pulse on the row before (pre1). It sets its stage latch (lat1), which is cleared where every fan's
 -- proof differs from its delayed stop
 unfoldable pub stageDown : ReliefBlocks → ReliefRow → PressureControl → StageDown
@@ -107,6 +108,7 @@ stageDown blocks row control =
       «lat1_y» = latchOutput (blocks .lat1) pulse matched;
     }
 
+-- all four parts, worked from the mean
 unfoldable pub reliefSignals : ReliefBlocks → ReliefRow → Float → ReliefSignals
 reliefSignals blocks row average =
     let control = pressureControl blocks row average in

@@ -51,7 +51,8 @@ startsSettled h = every 4 (λ i. Bool·beq (running timeOfRow proofTime (onAfter
 unfoldable pub stopsSettled : Past → Bool
 stopsSettled h = every 4 (λ i. not (Bool·beq (proven i h) (running timeOfRow proofTime (offAfterDown i) h)))
 
--- the stage latches here: while the first is on, the fans of `onAfterUp` are commanded on; while the second is on and some fan is proven, those of `offAfterDown` off
+-- the stage latches here: while the first is on, exactly the fans of `onAfterUp` are commanded on, whatever the second is; while the second alone is on and some fan is
+-- proven, exactly those of `offAfterDown` are off
 abbrev pub upLatch : Past → Bool
 upLatch [] = false
 upLatch (x ∷ h) = signalsOf x h .up .«lat2_y»

@@ -49,6 +49,7 @@ reliefBlocks = record {
   «gre_thr3» = each4 (λ i. thresholdAbove half plusZero);
 }
 
+-- a start: an empty window, and the blocks before any row
 unfoldable pub reliefFresh : ReliefState
 reliefFresh = record { window = movingAverageNew; blocks = reliefBlocks }
 
@@ -98,5 +99,6 @@ stepBy Accepted state row =
     }
 stepBy (Refused refusal) state row = record { answer = Answer.Refused refusal; state = state }
 
+-- a row (document 01, 'What each row refuses'): what its verdict makes of it
 unfoldable pub reliefRow : ReliefState → ReliefRow → ReliefStep
 reliefRow state row = stepBy (reliefVerdict (state .blocks) row (movingAverageIsFull (state .window) (row .time))) state row

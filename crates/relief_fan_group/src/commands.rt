@@ -12,7 +12,8 @@ use relief_fans::commands::fan_speed;
 use relief_fans::flags::any_of;
 use relief_fans::flags::switch_each;
 
-// The fans that are commanded on: those that are proven, less the next to stop in a stage down, with the next to start in a stage up.
+// The fans that are commanded on: in a stage up those that are proven and the next to start, whatever a stage down asks; else in a stage down those that are proven, less
+// the next to stop; else those that are proven.
 pub fn fans_on(proof: [bool; 4], up: StageUp, down: StageDown) -> [bool; 4]
     ensures { λ r. ⌜ r ≡ fansOn proof up down ⌝ }
 {

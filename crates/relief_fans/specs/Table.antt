@@ -9,7 +9,7 @@ use Rattle.reals.specs.Four.{real, flag, each4}
 use Rattle.reals.specs.Switch.{boolToReal}
 use Rattle.relief_fans.specs.Constants.{two, three, four}
 
--- staVec, the weight of each relief fan: the enabled fan with the lowest weight starts first
+-- staVec, the weight of each relief fan: while both supply fans are on, the fan with the lowest weight starts first
 abbrev pub staVec : List Float
 staVec = two ∷ three ∷ one ∷ four ∷ []
 

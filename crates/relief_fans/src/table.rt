@@ -3,7 +3,7 @@ ghost use mathlib.Core.Path.{_≡_};
 ghost use Rattle.relief_fans.specs.Table.{enaRel, gai};
 use reals::switch::bool_to_real;
 
-// The weight of each relief fan: the one with the lowest weight starts first.
+// The weight of each relief fan: while both supply fans are on, the one with the lowest weight starts first.
 pub const STA_VEC: [f64; 4] = [2.0, 3.0, 1.0, 4.0];
 
 // A row for each relief fan, a column for each supply fan: fans 1 and 2 are on supply 1, fans 3 and 4 on supply 2.
