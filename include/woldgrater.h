@@ -1,14 +1,16 @@
 /* Woldgrater for firmware: freeze protection, relief fan group and economizer of air handlers, played row by row.
  *
  * The functions are proved: for all bytes they do exactly what is said here, end, and touch no memory but what they are lent.
- * They keep nothing between calls, take no memory of their own but some 32 KB of stack, and call nothing but memcpy, memmove
- * and memset.
+ * They keep nothing between calls, take no memory of their own but the stack (some 30 KB for woldgrater_play, 23 KB for
+ * woldgrater_feed), and call nothing but memcpy, memmove and memset.
  *
  * Link target/staticlib/libwoldgrater.a, which `rt staticlib woldgrater` writes (x86-64, System V calls).
  *
- * Owed by the caller, and nothing else: each pointer is not null, also for a length of 0, and leads to as many bytes as its
- * length says, at most PTRDIFF_MAX; what is lent to be written overlaps nothing else that is lent; nothing else writes there
- * during the call.
+ * Owed by the caller, and nothing else:
+ * - Each pointer is not null, also for a length of 0, and leads to as many bytes as its length says, at most PTRDIFF_MAX; what is
+ *   lent to be written overlaps nothing else that is lent; nothing else writes there during the call.
+ * - The floating-point unit is set as a C program starts with it: rounding to nearest, subnormal numbers kept (no flush to zero, so
+ *   nothing linked with -ffast-math), exceptions masked. Else the answers may be other ones, or the processor may trap.
  */
 #ifndef WOLDGRATER_H
 #define WOLDGRATER_H
@@ -31,7 +33,8 @@ extern "C" {
 
 /* A row file at once.
  *
- * rows is the file: a first line `freeze`, `relief` or `econ`, then a line for each row, as the program `rows` reads it.
+ * rows is the file, as the program `rows` reads it: a first line `freeze`, `relief` or `econ`, then a line for each row. Each row is
+ * answered by a line, its status and, where it is accepted, its commands. docs/ROW_FILES.md has columns and statuses.
  *
  * Where out_len is at least WOLDGRATER_ROOM(rows_len): gives the length of the output, and the output stands in the first bytes
  * of out, byte for byte what the program `rows` prints. What stands in the bytes after it is left open.
@@ -43,7 +46,8 @@ size_t woldgrater_play(const uint8_t *rows, size_t rows_len, uint8_t *out, size_
  *
  * The caller holds what is carried from call to call: the state, WOLDGRATER_LINE bytes of a line that has not ended, and two
  * arrays of WOLDGRATER_WINDOW numbers for the window of the relief fan group. The arrays need not be set before the first call.
- * Two files, as of two air handlers, go on side by side in memory of their own. */
+ * Two files, as of two air handlers, go on side by side in memory of their own. To go back to a moment, put back state, line and
+ * arrays together. */
 #define WOLDGRATER_LINE 256
 #define WOLDGRATER_WINDOW 512
 

@@ -2,8 +2,10 @@
  *
  *     feed [BYTES]    BYTES of a chunk, from 1 to 4096; without it 4096
  */
+#define _POSIX_C_SOURCE 200809L
 #include <stdio.h>
 #include <stdlib.h>
+#include <unistd.h>
 
 #include "woldgrater.h"
 
@@ -27,17 +29,18 @@ static int written(size_t len)
 int main(int argc, char **argv)
 {
     long size = argc > 1 ? strtol(argv[1], NULL, 10) : CHUNK;
-    size_t len;
+    ssize_t len;
     if (size < 1 || size > CHUNK) {
         fputs("feed: BYTES is from 1 to 4096\n", stderr);
         return 2;
     }
     state = woldgrater_start();
-    while ((len = fread(chunk, 1, (size_t)size, stdin)) > 0) {
-        struct woldgrater_fed fed = woldgrater_feed(chunk, len, out, sizeof out, line, times, integrals, state);
+    /* `read`, since `fread` would wait for a whole chunk. */
+    while ((len = read(STDIN_FILENO, chunk, (size_t)size)) > 0) {
+        struct woldgrater_fed fed = woldgrater_feed(chunk, (size_t)len, out, sizeof out, line, times, integrals, state);
         state = fed.state;
         if (!written(fed.sent))
             return 1;
     }
-    return ferror(stdin) || !written(woldgrater_finish(out, sizeof out, line, state));
+    return len < 0 || !written(woldgrater_finish(out, sizeof out, line, state));
 }

@@ -1,6 +1,6 @@
 //! Feeds a row file from standard input chunk by chunk and prints the answers as they come, as the program `rows` does.
 //!
-//!     feed [BYTES]    BYTES of a chunk; without it 4096
+//!     feed [BYTES]    BYTES of a chunk, at least 1; without it 4096
 use std::io::{Read, Write};
 
 /// What include/woldgrater.h says in C.
@@ -84,6 +84,7 @@ mod woldgrater {
 
 fn main() -> std::io::Result<()> {
     let size = std::env::args().nth(1).map_or(4096, |bytes| bytes.parse().expect("BYTES is a number"));
+    assert!(size > 0, "BYTES is at least 1");
     let mut chunk = vec![0; size];
     let mut out = vec![0; woldgrater::room(size)];
     let mut file = woldgrater::Feeding::start();

@@ -22,6 +22,8 @@ from comparing import ANSWERS, KINDS, ROWS, WIDTH, bits, number  # noqa: F401: f
 
 NAN = 9221120237041090560
 
+WORDS = {'f': 'float', 'b': 'yes or no', 'i': 'integer'}
+
 NUMBER = re.compile(r'-?(0|[1-9][0-9]*)(\.[0-9]+)?([eE][+-]?[0-9]+)?')
 INTEGER = re.compile(r'0|-?[1-9][0-9]{0,18}')
 COLUMN = re.compile(rb' *(0|-?[1-9][0-9]*)')

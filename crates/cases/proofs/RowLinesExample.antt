@@ -1,8 +1,7 @@
 -- The example of 'Row lines', computed. Assumes nothing.
-use Prim.Native.Nat.{ℕ}
 use mathlib.Core.Path.{_≡_, refl}
 use mathlib.Core.Bool.{true, false}
-use mathlib.Core.List.{List, [], _∷_}
+use mathlib.Core.List.{[], _∷_}
 use lib.IntN.{pos}
 use lib.Ieee.{binary64, le, sub, mul, div, isNan, round, ofBits, toBits}
 use Rattle.reals.specs.Order.{greater, lesser}
@@ -28,18 +27,18 @@ use Rattle.economizer_controller.specs.DamperLimits.{minimumOutdoorAirLoopEnabl
 use Rattle.economizer_controller.specs.Enable.{enableNew, enableOutput, enableLimits}
 use Rattle.economizer_controller.specs.Relief.{reliefModulation}
 use Rattle.economizer_controller.specs.Step.{economizerFresh, economizerSignals, economizerCommands, stepBy, economizerRow}
-use Rattle.relief_fan_group.specs.declared.types.ReliefState.{ReliefState}
 use Rattle.row_lines.specs.Scan.{digit, decimal}
 use Rattle.row_lines.specs.Column.{column}
 use Rattle.row_lines.specs.Field.{readUnsigned, readSigned, readYesNo, readReal}
 use Rattle.row_lines.specs.Line.{columnOf}
-use Rattle.lines.specs.Lines.{Answer, linesAfter, restAfter, answers, feed}
+use Rattle.lines.specs.Lines.{linesAfter, restAfter, answers, feed}
 use Rattle.lines.specs.Lines as Lines
 use Rattle.row_reader.specs.declared.kind.Kind.the-variants.{Econ}
 use Rattle.row_reader.specs.Kind.{kindOf}
 use Rattle.row_reader.specs.Reader.{readerLine, readerOutput}
+use Rattle.row_reader.specs.Rows.{rowsOutput}
 use Rattle.econ_lines.specs.Econ.{econLine, econCommandsLine, econAnswerLine, econAnswer, econAnswered}
-use Rattle.cases.specs.RowLines.{bytesOf, firstText, rowText, answerText, inputBytes, outputBytes, rowsOutput}
+use Rattle.cases.specs.RowLines.{bytesOf, firstText, rowText, answerText, inputBytes, outputBytes}
 
 -- the input's lines, and nothing after them
 lines-are : linesAfter [] inputBytes ≡ firstText ∷ rowText ∷ []
@@ -88,6 +87,6 @@ said-is : econAnswered economizerFresh rowText .said ≡ outputBytes
 unfolding econAnswered econAnswer econAnswerLine
 said-is = rw (row-is, answer-is) line-is
 
-pub example-is-written : (reliefAnswered : ReliefState → List ℕ → Answer ReliefState) → rowsOutput reliefAnswered inputBytes ≡ outputBytes
-unfolding rowsOutput readerOutput Lines.output feed answers readerLine
-example-is-written reliefAnswered = rw (lines-are, rest-is, kind-is, said-is) (unfold outputBytes answerText bytesOf in refl)
+pub example-is-written : rowsOutput inputBytes ≡ outputBytes
+unfolding readerOutput Lines.output feed answers readerLine
+example-is-written = rw (lines-are, rest-is, kind-is, said-is) (unfold outputBytes answerText bytesOf in refl)

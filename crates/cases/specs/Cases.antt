@@ -2,7 +2,7 @@
 use Prim.Native.Nat.{ℕ, _<_}
 use mathlib.Core.Path.{_≡_}
 use mathlib.Core.Bool.{true, false}
-use mathlib.Core.List.{List, [], _∷_}
+use mathlib.Core.List.{[], _∷_}
 use lib.Dec.{T}
 use lib.Ieee.Scale.{finite}
 use Rattle.reals.specs.Sign.{isTime}
@@ -11,12 +11,12 @@ use Rattle.relief_fans.specs.Blocks.{delayAt}
 use Rattle.relief_fan_group.specs.declared.types.ReliefRow.{ReliefRow}
 use Rattle.relief_fan_group.specs.declared.types.ReliefState.{ReliefState}
 use Rattle.relief_fan_group.specs.Step.{reliefFresh, reliefRow}
-use Rattle.lines.specs.Lines.{Answer}
+use Rattle.row_reader.specs.Rows.{rowsOutput}
 use Rattle.cases.specs.Words.{zero, taken}
 use Rattle.cases.specs.Freeze.{FreezeOthers, at, resetAt, stages, signalled, isCold, callsStage3, isHeld, hourPassed}
 use Rattle.cases.specs.Relief.{told, AlarmGuard, Waits}
 use Rattle.cases.specs.Economizer.{RisesAndStays, StartsAndWaits}
-use Rattle.cases.specs.RowLines.{inputBytes, outputBytes, rowsOutput}
+use Rattle.cases.specs.RowLines.{inputBytes, outputBytes}
 
 -- `o` has, for each time, the fields that document 01 leaves open; they are any finite numbers
 pub record Cases : Type 0 where
@@ -61,4 +61,4 @@ pub record Cases : Type 0 where
   pub e2 : StartsAndWaits
   -- Row lines: the program `rows` reads this from standard input (time, flow, setpoint, signal, outdoor 256 K, fan, mode, stage) .. and prints (status, outdoor minimum,
   -- loop on, outdoor command, return command = 1.0) ..
-  pub rowLines : (reliefAnswered : ReliefState → List ℕ → Answer ReliefState) → rowsOutput reliefAnswered inputBytes ≡ outputBytes
+  pub rowLines : rowsOutput inputBytes ≡ outputBytes

@@ -1,17 +1,9 @@
--- The example of document 01, 'Row lines', byte for byte, and the reader that it is given to.
+-- The example of document 01, 'Row lines', byte for byte.
 use Prim.Native.Nat.{ℕ}
 use Prim.Native.Char.{code}
 use Prim.Native.String.{String, [] as none, _∷_ as _before_}
 use mathlib.Core.List.{List, [], _∷_, _++_}
 use Rattle.row_lines.specs.Line.{endOfLine}
-use Rattle.lines.specs.Lines.{Answer}
-use Rattle.freeze_protection.specs.Step.{freezeFresh}
-use Rattle.relief_fan_group.specs.declared.types.ReliefState.{ReliefState}
-use Rattle.relief_fan_group.specs.Step.{reliefFresh}
-use Rattle.economizer_controller.specs.Step.{economizerFresh}
-use Rattle.econ_lines.specs.Econ.{econAnswered}
-use Rattle.freeze_lines.specs.Freeze.{freezeAnswered}
-use Rattle.row_reader.specs.Reader.{readerOutput}
 
 -- the bytes of a text whose characters are all of ASCII
 unfoldable pub bytesOf : String → List ℕ
@@ -35,7 +27,3 @@ inputBytes = firstText ++ endOfLine ++ rowText ++ endOfLine
 
 unfoldable pub outputBytes : List ℕ
 outputBytes = answerText ++ endOfLine
-
--- what the reader writes for a whole input, whatever it answers to relief lines
-unfoldable pub rowsOutput : (ReliefState → List ℕ → Answer ReliefState) → List ℕ → List ℕ
-rowsOutput reliefAnswered bytes = readerOutput freezeFresh reliefFresh economizerFresh freezeAnswered reliefAnswered econAnswered bytes

@@ -1,6 +1,6 @@
 -- However a stream is cut into chunks, what is written is what the whole stream gives. For any state, and any answer to a line that bytes past the
 -- 256th do not change. Assumes nothing.
-use Prim.Native.Nat.{ℕ, _+_, _≤_, _<_}
+use Prim.Native.Nat.{ℕ, _≤_, _<_}
 use mathlib.Core.Path.{_≡_, refl, sym, ap, _∙_}
 use mathlib.Core.List.{List, [], _∷_, _++_, append-assoc}
 use mathlib.Core.Bool.{Bool, true, false, cond}

@@ -1,5 +1,5 @@
 -- A stream of bytes as lines (document 01, 'Row lines': byte 10 after each line), each answered from a state of any type Q.
-use Prim.Native.Nat.{ℕ, suc, _+_, _≤_}
+use Prim.Native.Nat.{ℕ, suc, _≤_}
 use mathlib.Core.Path.{_≡_}
 use mathlib.Core.List.{List, [], _∷_, _++_}
 use mathlib.Core.Bool.{cond}

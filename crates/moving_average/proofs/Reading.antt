@@ -1,5 +1,5 @@
 -- The window of the state that accepted rows lead to, and whether it has room, are read off the times of those rows alone. Assumes nothing.
-use Prim.Native.Nat.{suc, _+_, _≤_}
+use Prim.Native.Nat.{suc, _≤_}
 use native.Mathlib.Omega.{arith}
 use mathlib.Core.Path.{_≡_, refl, sym, ap, _∙_}
 use mathlib.Core.Bool.{Bool, true, false, cond}

@@ -1,5 +1,5 @@
 -- Runs of a past, one row further: what `passed`, `running` and `delayed` say of the start of the run is said of one time and one gap sum. Assumes nothing.
-use Prim.Native.Nat.{ℕ, suc, _-_}
+use Prim.Native.Nat.{ℕ, suc}
 use native.Mathlib.Nat.{suc-sub-suc, sub-zero, sub-self}
 use mathlib.Core.Path.{_≡_, refl, sym, ap, ap₂, _∙_, fun-ext}
 use mathlib.Core.Bool.{Bool, true, false, not, _&&_, _||_, cond}

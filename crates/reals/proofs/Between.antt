@@ -3,7 +3,7 @@ use Prim.Native.Nat.{ℕ, _+_, _-_, _*_}
 use mathlib.Core.Path.{_≡_, refl}
 use mathlib.Core.Bool.{Bool, true, false, not, _&&_, Bool·beq, cond, true≢false}
 use lib.Dec.{T, ltb}
-use lib.Ieee.{Float, nan, inf, fin, Format, up, down, lt, le, eq, isNan, round, sum, add, mul, neg}
+use lib.Ieee.{Float, nan, inf, fin, Format, up, down, lt, le, isNan, round, sum, add, mul, neg}
 use lib.Ieee.Scale.{finite}
 use Rattle.reals.specs.Limits.{clamp}
 use Rattle.reals.specs.Order.{greater, lesser}

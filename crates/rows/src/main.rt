@@ -115,7 +115,7 @@ fn input_buffer() -> [u8; 32768]
     [0; 32768]
 }
 
-// Room for the answers to a chunk: each of its bytes, and of those kept of a line, might be an empty line.
+// Room for the answers to a chunk: an answer has at most 22 bytes for each byte of its line, newline included, and 256 bytes of a line may have been kept before.
 fn output_buffer() -> [u8; 726528]
     ensures { λ r. ⌜ 726528 ≡ length r ⌝ }
 {

@@ -1,4 +1,4 @@
-"""The files that are kept: the winters, and the row files, answers and tables of docs/ANSWERS.md."""
+"""The files that are kept: the winters, the row files, answers and tables of docs/ANSWERS.md, and the columns of docs/ROW_FILES.md."""
 
 import csv
 import io
@@ -7,7 +7,7 @@ import re
 import unittest
 
 from tables import files, timeline
-from tables.fields import ROWS
+from tables.fields import ANSWERS as OUTPUTS, ROWS, WORDS
 from tables.tests.common import ROOT, needs_reference, play, read
 
 WINTERS = {'cold-snap.csv': 'freeze', 'relief-hour.csv': 'relief', 'warm-spell.csv': 'econ'}
@@ -85,3 +85,15 @@ class Answers(unittest.TestCase):
                 self.assertEqual(body, [[line[column] for column in head] for line in lines])
                 kind = files.read_rows(read('docs', 'answers', f'{name}.rows'), name)[0]
                 self.assertLessEqual({column for column, _ in ROWS[kind] if len({line[column] for line in lines}) > 1}, set(head))
+
+
+class RowFiles(unittest.TestCase):
+    def test_the_columns_are_those_of_the_tool(self):
+        """docs/ROW_FILES.md has, under each kind, the columns of a row and of its answer in order."""
+        page = read('docs', 'ROW_FILES.md').decode()
+        shown = re.findall(r'`(\w+)`\n\nA row:\n\n((?:\|.*\n)+)\nIts answer:\n\n((?:\|.*\n)+)', page)
+        self.assertEqual([kind for kind, _, _ in shown], list(ROWS))
+        for kind, *texts in shown:
+            for text, columns in zip(texts, (ROWS[kind], OUTPUTS[kind])):
+                lines = [[cell.strip() for cell in line.strip('|').split('|')] for line in text.splitlines()[2:]]
+                self.assertEqual(lines, [[name, WORDS[form]] for name, form in columns])

@@ -1,6 +1,6 @@
 -- `fill` meets its contract. The loop's invariant: the spaces that are still to be written make of the buffer what all of them make of the first one.
 -- Assumes nothing.
-use Prim.Native.Nat.{_≤_, _-_}
+use Prim.Native.Nat.{_≤_}
 use mathlib.Core.Path.{_≡_, sym, _∙_}
 use native.Mathlib.Omega.{arith}
 use lib.ListN.{length}
