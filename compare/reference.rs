@@ -2,6 +2,7 @@
 //!
 //!     reference < ROWS > ANSWERS      the lines that `rows` must print
 //!     reference scenario NAME         the rows of the Rust's own scenario, as a row file
+//!     reference blocks                the lines that `replay_blocks` must print
 //!     events count FILE..             how often each kind of event occurs in these row files
 //!
 //! `events` is this program built with `--cfg events`.
@@ -16,6 +17,8 @@ mod events;
 mod input;
 #[path = "reference/lines.rs"]
 mod lines;
+#[path = "reference/marks.rs"]
+mod marks;
 /// The published sequences, as compare/extract takes them from docs/src.
 #[allow(dead_code)]
 #[path = "../target/compare/sequences"]
@@ -37,7 +40,8 @@ use sequences::freeze_protection::freeze;
 use sequences::relief_fan_group::relief;
 
 const USAGE: &str = "usage: reference < ROWS > ANSWERS
-       reference scenario freeze|fine_step|relief|econ";
+       reference scenario freeze|fine_step|relief|econ
+       reference blocks";
 
 fn main() -> ExitCode {
     let arguments: Vec<String> = std::env::args_os()
@@ -64,6 +68,7 @@ fn run(words: &[&str]) -> Result<(), String> {
         ["scenario", "fine_step"] => print(&freeze::fine_step_scenario()),
         ["scenario", "relief"] => print(&relief::scenario()),
         ["scenario", "econ"] => print(&econ::scenario()),
+        ["blocks"] => print([freeze::blocks(), relief::blocks(), econ::blocks()].concat().as_bytes()),
         #[cfg(events)]
         ["count", files @ ..] if !files.is_empty() => print(&events::count(files)?),
         _ => Err(format!(

@@ -86,7 +86,7 @@ def refuses(name, words, **streams):
 
 
 def check_command_lines():
-    for words in ('nonsense', 'scenario', 'scenario nothing', 'scenario freeze more', 'count'):
+    for words in ('nonsense', 'scenario', 'scenario nothing', 'scenario freeze more', 'blocks more', 'count'):
         refuses(f'reference {words}', [REFERENCE, *words.split()])
     for words in ('', 'freeze', 'nothing 1', 'freeze x', 'freeze -1', 'freeze 1.5', 'freeze 1 0',
                   'freeze 1 x', 'freeze 1 2 3', 'freeze clean', 'freeze clean 0', 'freeze dense 5',

@@ -2,11 +2,15 @@
 
 use std::io::{self, Read, Write};
 
-use super::{ControllerTrace, Row, economizer_controller_trace, input_trace, time_grid};
+use super::{
+    ControllerTrace, HysteresisState, Row, TrueDelayState, TrueFalseHoldState, economizer_controller_trace, input_trace,
+    time_grid,
+};
 use crate::acceptance::Before;
 use crate::columns::{Columns, put_flag, put_float, put_signed};
 use crate::input::Input;
 use crate::lines::{self, Kind};
+use crate::marks;
 
 struct Econ;
 
@@ -71,6 +75,32 @@ pub fn scenario() -> Vec<u8> {
         out.push(b'\n');
     }
     out
+}
+
+/// Hysteresis, delays and hold on their own.
+pub fn blocks() -> String {
+    let mut hysteresis = HysteresisState::default();
+    let warm = [0.0, 0.5, 0.0, -1.0, -1.25, 0.0].map(|difference| hysteresis.tick(difference));
+    let delay = |seconds, rows: &[(f64, bool)]| {
+        let mut delay = TrueDelayState::default();
+        rows.iter().map(|&(t, u)| delay.tick(t, u, seconds)).collect::<Vec<_>>()
+    };
+    let mut hold = TrueFalseHoldState::default();
+    let held = [(0.3, true), (1.1, false), (600.3, false), (600.4, false)].map(|(t, u)| hold.tick(t, u));
+    [
+        marks::line("E1 economizer hysteresis, difference 0 0.5 0 -1 -1.25 0", warm),
+        marks::line("E2 economizer delay 180 s, true from 0 s, at 0 60", delay(180.0, &[(0.0, true), (60.0, true)])),
+        marks::line(
+            "E2 economizer delay 15 s, true from 60 s, at 0 60 74 75",
+            delay(15.0, &[(0.0, false), (60.0, true), (74.0, true), (75.0, true)]),
+        ),
+        marks::line(
+            "E2 economizer delay 180 s, true from 60 s, at 0 60 239 240",
+            delay(180.0, &[(0.0, false), (60.0, true), (239.0, true), (240.0, true)]),
+        ),
+        marks::line("economizer hold 600 s, true at 0.3 s, false at 1.1 600.3 600.4", held),
+    ]
+    .concat()
 }
 
 #[cfg(test)]

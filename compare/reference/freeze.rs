@@ -3,12 +3,14 @@
 use std::io::{self, Read, Write};
 
 use super::{
-    Inputs, Trace, expected_times, fine_step, freeze_protection_trace, input_row, input_rows,
+    Inputs, PidState, ThresholdState, TimerState, Trace, expected_times, fine_step, freeze_protection_trace, input_row,
+    input_rows,
 };
 use crate::acceptance::Before;
 use crate::columns::{Columns, put_flag, put_float, put_signed};
 use crate::input::Input;
 use crate::lines::{self, Kind};
+use crate::marks;
 
 struct Freeze;
 
@@ -101,4 +103,33 @@ fn row_file(times: &[f64], input_row: fn(f64) -> Inputs) -> Vec<u8> {
         out.push(b'\n');
     }
     out
+}
+
+/// Threshold, loop and timer on their own.
+pub fn blocks() -> String {
+    let mut threshold = ThresholdState::less(277.55, 0.25);
+    let cold = [277.55, 277.54, 277.79, 277.81, 277.79].map(|supply| {
+        let y = threshold.output(supply);
+        threshold.update(supply);
+        y
+    });
+    let mut pid = PidState::default();
+    let numbers = (0..1000).take_while(|&row| {
+        let y = pid.output(279.15, 277.0);
+        pid.update(60.0 * f64::from(row), 279.15, 277.0);
+        !y.is_nan()
+    });
+    let loop_line = format!("F7 freeze loop, 277 K against 279.15 K, rows 60 s apart, rows before a NaN: {}\n", numbers.count());
+    let mut timer = TimerState::new(300.0);
+    let passed = [0.0, 299.0, 300.0, 200.0].map(|t| {
+        let y = timer.output(t, true).passed;
+        timer.update(t, true);
+        y
+    });
+    [
+        marks::line("F2 cold at 277.55 K, supply 277.55 277.54 277.79 277.81 277.79", cold),
+        loop_line,
+        marks::line("freeze timer 300 s, true from 0 s, at 0 299 300 200", passed),
+    ]
+    .concat()
 }

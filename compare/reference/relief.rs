@@ -2,11 +2,12 @@
 
 use std::io::{self, Read, Write};
 
-use super::{Inputs, Trace, expected_times, input_rows, relief_fan_group_trace};
+use super::{Inputs, TimerState, Trace, TrueDelayState, expected_times, input_rows, relief_fan_group_trace};
 use crate::acceptance::Before;
 use crate::columns::{Columns, put_flag, put_float, put_signed};
 use crate::input::Input;
 use crate::lines::{self, Kind};
+use crate::marks;
 
 struct Relief;
 
@@ -81,6 +82,27 @@ pub fn scenario() -> Vec<u8> {
         out.push(b'\n');
     }
     out
+}
+
+/// Delay and timer on their own.
+pub fn blocks() -> String {
+    let mut delay = TrueDelayState::new(2.0);
+    let delayed = [0.0, 1.0, 2.0].map(|t| {
+        let y = delay.output(t, true);
+        delay.update(t, true);
+        y
+    });
+    let mut timer = TimerState::new(300.0);
+    let passed = [0.0, 299.0, 300.0, 200.0].map(|t| {
+        let y = timer.output(t, true).passed;
+        timer.update(t, true);
+        y
+    });
+    [
+        marks::line("R4 relief delay 2 s, true from 0 s, at 0 1 2", delayed),
+        marks::line("relief timer 300 s, true from 0 s, at 0 299 300 200", passed),
+    ]
+    .concat()
 }
 
 #[cfg(test)]

@@ -1,12 +1,11 @@
 // Blocks on their own, on cases of document 01: a line for each case, with the block's output at each row, 1 for true and 0 for false.
-// The file stdout holds what the blocks of the Rust give on the same rows.
+// The file stdout holds what the blocks of the Rust give on the same rows (compare/stored).
 use libc::STDOUT_FILENO;
 use logical::held_timer::HeldTimerState;
 use logical::present_timer::PresentTimerState;
 use logical::true_delay::TrueDelayState;
 use logical::true_delay_on_init::TrueDelayOnInitState;
 use logical::true_false_hold::TrueFalseHoldState;
-use moving_average::state::MovingAverageState;
 use reals::hysteresis::HysteresisState;
 use reals::pid::PidState;
 use reals::threshold::ThresholdState;
@@ -202,40 +201,15 @@ fn freeze_loop() {
     io::write_all(STDOUT_FILENO, b"\n");
 }
 
-// R5: the window after rows each 0.5 s from 0; an update of a full window hands it back.
-fn filled_window() -> MovingAverageState {
-    let mut s = MovingAverageState::new();
-    let mut t = 0.0;
-    for n in 0..600u64 {
-        s = s.update(t, 12.0);
-        t = t + 0.5;
-    }
-    s
-}
-
-fn window_of_half_seconds() {
-    io::write_all(
-        STDOUT_FILENO,
-        b"R5 window, rows each 0.5 s from 0; points, and full at 256 300 300.5: ",
-    );
-    let s = filled_window();
-    io::print_decimal(STDOUT_FILENO, s.count as u64);
-    print(s.is_full(256.0));
-    print(s.is_full(300.0));
-    print(s.is_full(300.5));
-    io::write_all(STDOUT_FILENO, b"\n");
-}
-
 fn main() {
     cold_at_stage_1();
-    economizer_hysteresis();
     freeze_loop();
-    window_of_half_seconds();
+    held_timer();
+    relief_delay();
+    present_timer();
+    economizer_hysteresis();
     economizer_delay_on_row_0();
     outdoor_delay();
     return_delay();
-    relief_delay();
-    held_timer();
-    present_timer();
     economizer_hold();
 }
