@@ -29,6 +29,18 @@ mod sequences {
     pub mod relief_fan_group;
 
     use cdl_recurrences::{buildings_line, clamp};
+
+    /// The blocks of cdl_recurrences.rs that no sequence here uses, on their own.
+    pub fn blocks() -> String {
+        let hysteresis = cdl_recurrences::hysteresis(&[0.5, f64::NAN, -1.0, -2.0, f64::NAN], -1.0, 0.0, false);
+        let elapsed = cdl_recurrences::timer(&[5.0, 7.5, 8.0, 9.0, 9.5], &[true, true, true, false, true]);
+        let patterns: String = elapsed.iter().map(|seconds| format!(" {}", seconds.to_bits())).collect();
+        [
+            crate::marks::line("hysteresis -1 0 of cdl_recurrences.rs, 0.5 nan -1 -2 nan", hysteresis),
+            format!("timer of cdl_recurrences.rs, true at 5 7.5 8, false at 9, true at 9.5 s, patterns:{patterns}\n"),
+        ]
+        .concat()
+    }
 }
 
 use std::io::{self, Read, Write};
@@ -68,7 +80,7 @@ fn run(words: &[&str]) -> Result<(), String> {
         ["scenario", "fine_step"] => print(&freeze::fine_step_scenario()),
         ["scenario", "relief"] => print(&relief::scenario()),
         ["scenario", "econ"] => print(&econ::scenario()),
-        ["blocks"] => print([freeze::blocks(), relief::blocks(), econ::blocks()].concat().as_bytes()),
+        ["blocks"] => print([freeze::blocks(), relief::blocks(), econ::blocks(), sequences::blocks()].concat().as_bytes()),
         #[cfg(events)]
         ["count", files @ ..] if !files.is_empty() => print(&events::count(files)?),
         _ => Err(format!(

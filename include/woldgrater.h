@@ -7,8 +7,9 @@
  * Link target/staticlib/libwoldgrater.a, which `rt staticlib woldgrater` writes (x86-64, System V calls).
  *
  * Owed by the caller, and nothing else:
- * - Each pointer is not null, also for a length of 0, and leads to as many bytes as its length says, at most PTRDIFF_MAX; what is
- *   lent to be written overlaps nothing else that is lent; nothing else writes there during the call.
+ * - Each pointer is not null, also for a length of 0, and leads to as many bytes as its length says, at most PTRDIFF_MAX, or to the
+ *   whole array that is declared; what is lent to be written overlaps nothing else that is lent; nothing else writes there during
+ *   the call.
  * - The floating-point unit is set as a C program starts with it: rounding to nearest, subnormal numbers kept (no flush to zero, so
  *   nothing linked with -ffast-math), exceptions masked. Else the answers may be other ones, or the processor may trap.
  */
@@ -37,12 +38,12 @@ extern "C" {
  * answered by a line, its status and, where it is accepted, its commands. docs/ROW_FILES.md has columns and statuses.
  *
  * Where out_len is at least WOLDGRATER_ROOM(rows_len): gives the length of the output, and the output stands in the first bytes
- * of out, byte for byte what the program `rows` prints. What stands in the bytes after it is left open.
+ * of out. (The program `rows` prints the same bytes, which is tested.) What stands in the bytes after it is left open.
  * Else: gives WOLDGRATER_REFUSED, and out is as it was. */
 size_t woldgrater_play(const uint8_t *rows, size_t rows_len, uint8_t *out, size_t out_len);
 
 /* A row file chunk by chunk, cut anywhere: start it, feed each chunk as it comes, then finish it. What is given to be written by
- * these calls, one after another, is byte for byte what the program `rows` prints of the whole file.
+ * these calls, one after another, is the output that woldgrater_play gives for the whole file.
  *
  * The caller holds what is carried from call to call: the state, WOLDGRATER_LINE bytes of a line that has not ended, and two
  * arrays of WOLDGRATER_WINDOW numbers for the window of the relief fan group. The arrays need not be set before the first call.
@@ -77,7 +78,7 @@ struct woldgrater_fed woldgrater_feed(const uint8_t *chunk, size_t chunk_len, ui
 /* Ends the file.
  *
  * Where out_len is at least WOLDGRATER_ROOM_FINISH: gives the number of bytes to be written, which stand in the first bytes of out:
- * the refusal of a last line without a newline, or of a file without a first line, or none.
+ * the refusal of a last line without a newline, or of a file without a first line, or none. The bytes after them are as they were.
  * Else: gives WOLDGRATER_REFUSED, and out is as it was. */
 size_t woldgrater_finish(uint8_t *out, size_t out_len, const uint8_t line[WOLDGRATER_LINE], struct woldgrater_state state);
 

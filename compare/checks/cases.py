@@ -96,7 +96,7 @@ CASES = [
         3540 276    | 2
         3900 276    | 1
     '''),
-    ('the first row is row 0: a call true there has risen', 'freeze', '''
+    ('however cold, row 0 and a row at its time have stage 0', 'freeze', '''
         time supply reset | stage
         0    273    1     | 0
         0    273    0     | 0

@@ -120,6 +120,16 @@ pub fn blocks() -> String {
         !y.is_nan()
     });
     let loop_line = format!("F7 freeze loop, 277 K against 279.15 K, rows 60 s apart, rows before a NaN: {}\n", numbers.count());
+    let mut pid = PidState::default();
+    let growth: Vec<f64> = (0..140)
+        .map(|row| {
+            let before = pid.integral;
+            pid.update(60.0 * f64::from(row), 279.15, 277.0);
+            pid.integral / before
+        })
+        .collect();
+    let growing = growth[10..].iter().filter(|&&growth| -132.4 < growth && growth < -132.3).count();
+    let sum_line = format!("F7 its sum grows 132-fold with alternate signs, rows of 10 to 139: {growing}\n");
     let mut timer = TimerState::new(300.0);
     let passed = [0.0, 299.0, 300.0, 200.0].map(|t| {
         let y = timer.output(t, true).passed;
@@ -129,6 +139,7 @@ pub fn blocks() -> String {
     [
         marks::line("F2 cold at 277.55 K, supply 277.55 277.54 277.79 277.81 277.79", cold),
         loop_line,
+        sum_line,
         marks::line("freeze timer 300 s, true from 0 s, at 0 299 300 200", passed),
     ]
     .concat()

@@ -57,7 +57,7 @@ mod woldgrater {
 
         /// The answers to the lines that end in the chunk, at the start of `out`; nothing where it has too little room.
         pub fn feed<'a>(&mut self, chunk: &[u8], out: &'a mut [u8]) -> Option<&'a [u8]> {
-            // Slices and arrays of Rust keep what the header asks of the caller.
+            // Slices and arrays of Rust keep what the header asks of pointers.
             let fed = unsafe {
                 woldgrater_feed(
                     chunk.as_ptr(),

@@ -14,7 +14,7 @@ mod woldgrater {
 
     /// Plays a whole row file from a fresh start: what stands in `out`, or nothing where it has too little room.
     pub fn play<'a>(rows: &[u8], out: &'a mut [u8]) -> Option<&'a [u8]> {
-        // Two slices of Rust keep what the header asks of the caller.
+        // Two slices of Rust keep what the header asks of pointers.
         let written = unsafe { woldgrater_play(rows.as_ptr(), rows.len(), out.as_mut_ptr(), out.len()) };
         (written != usize::MAX).then(|| &out[..written])
     }

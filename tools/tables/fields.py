@@ -8,8 +8,8 @@ The names, forms and order of the fields stand in one table, in compare/comparin
 
 A number as in JSON has ASCII digits only, no plus before it, no space, no underscore, no needless zero
 before it, and a digit on both sides of its point: 0.5, -12, 1e-05, 2.5E+3. It is read as the double
-nearest to it; one beyond the largest double is refused. A float is written as the shortest such number
-that reads back to the same pattern. Every NaN is `nan`, and `nan` is one pattern.
+nearest to it; one beyond the largest double is refused. A float is written with the fewest
+significant digits that read back to the same pattern. Every NaN is `nan`, and `nan` is one pattern.
 """
 
 import math

@@ -6,11 +6,12 @@ with the file's line numbers counted from 1, and nothing of a refused file is ha
 
 import csv
 import io
+import math
 
 from tables.fields import ANSWERS, KINDS, ROWS, WIDTH, from_cell, from_column, to_cell, to_column
 
 SHOWN = 20   # faults of a file that are told one by one
-BADLY_FORMED, LAST_STATUS = 5, 6
+WINDOW_FULL, BADLY_FORMED, LAST_STATUS = 4, 5, 6
 
 
 class Refused(Exception):
@@ -38,25 +39,28 @@ def read_csv(kind, data, name):
     except UnicodeDecodeError as error:
         line = data.count(b'\n', 0, error.start) + 1
         raise Refused(name, [f'line {line}: not UTF-8']) from None
-    reader = csv.reader(io.StringIO(text, newline=''), strict=True)
+    reader, line = csv.reader(io.StringIO(text, newline=''), strict=True), 1
     try:
         head = next(reader, [])
         places = columns_of(kind, head, name)
         rows, faults = [], []
+        line = reader.line_num + 1         # where the next row begins: a quoted cell may hold newlines
         for cells in reader:
+            at, line = line, reader.line_num + 1
             if len(cells) != len(head):
                 number = 'no' if not cells else len(cells)
-                faults.append(f'line {reader.line_num}: {number} cells for {len(head)} columns')
+                faults.append(f'line {at}: {number} cells for {len(head)} columns')
                 continue
             row = []
             for column, form, place in places:
                 try:
                     row.append(from_cell(cells[place], form))
                 except ValueError as error:
-                    faults.append(told(f'line {reader.line_num}, column {column}', cells[place], error))
+                    faults.append(told(f'line {at}, column {column}', cells[place], error))
             rows.append(row)
     except csv.Error as error:
-        raise Refused(name, [f'line {reader.line_num}: {error}']) from None
+        end = 'unexpected end' in str(error) or 'field limit' in str(error)
+        raise Refused(name, [f'line {line}: {"a cell that does not end, is a quote left open?" if end else error}']) from None
     if faults:
         raise Refused(name, faults)
     return rows
@@ -182,15 +186,30 @@ def read_answers(kind, data, name):
     return answers
 
 
-def played(rows_data, rows_name, answers_data, answers_name):
-    """A row file and its answers: the kind, the rows (None for a damaged line) and the answers."""
+def refusal(row, last):
+    """Which of 1, 2 and 3 a row is refused with after an accepted one of the time `last`, or 0."""
+    if not all(map(math.isfinite, row)):
+        return 1
+    if math.copysign(1.0, row[0]) < 0:
+        return 2
+    return 3 if last is not None and row[0] < last else 0
+
+
+def played(rows_data, rows_name, answers_data, answers_name, wanted=None):
+    """A row file, of the kind that is wanted, and its answers: the kind, the rows (None for a damaged line) and the answers."""
     kind, rows = read_rows(rows_data, rows_name, damaged=True)
+    if wanted not in (None, kind):
+        raise Refused(rows_name, [f'line 1: {kind} where {wanted} is asked for'])
     answers = read_answers(kind, answers_data, answers_name)
     if len(rows) != len(answers):
         raise Refused(answers_name, [f'{len(answers)} answers to the {len(rows)} rows of {rows_name}'])
-    faults = [f'line {line}: status {status}, but line {line + 1} of {rows_name} is {"" if row is None else "not "}damaged'
-              for line, (row, (status, _)) in enumerate(zip(rows, answers), 1)
-              if (row is None) != (status == BADLY_FORMED)]
+    faults, last = [], None
+    for line, (row, (status, _)) in enumerate(zip(rows, answers), 1):
+        due = BADLY_FORMED if row is None else refusal(row, last)
+        if status != due and not (status == WINDOW_FULL and due == 0 and kind == 'relief'):
+            faults.append(f'line {line}: status {status}, but line {line + 1} of {rows_name} gets {due}')
+        if row is not None and due == status == 0:
+            last = row[0]
     if faults:
         raise Refused(answers_name, faults)
     return kind, rows, answers

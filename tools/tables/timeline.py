@@ -203,6 +203,7 @@ def air_panel(taken, across):
     if points:
         path = 'M' + 'L'.join(f'{short(x)} {short(y)}' for x, y in points)
         parts.append(f'<path id="supply" d="{path}" fill="none" stroke="{AIR}" stroke-width="1.5" stroke-linejoin="round"/>')
+        parts.append(f'<circle cx="{short(points[-1][0])}" cy="{short(points[-1][1])}" r="3" fill="{AIR}"/>')
     return parts
 
 

@@ -1,12 +1,12 @@
--- Sentences of document 01 about single numbers: greater and lesser pass a NaN over and give the first of two equal operands; `clamp` and `f64::clamp`
--- at a NaN. Assumes nothing.
+-- Sentences of document 01 about single numbers: greater and lesser pass a NaN over and give the first of two equal operands; `clamp` at a NaN.
+-- (`f64::clamp` at a NaN: `limit-of-nan` of reals.) Assumes nothing.
 use mathlib.Core.Path.{_≡_, refl}
 use mathlib.Core.Bool.{false}
 use lib.Ieee.{Float, nan, ofBits, isNan, lt}
 use Rattle.reals.specs.Constants.{plusZero, one}
 use Rattle.reals.specs.Switch.{switch}
 use Rattle.reals.specs.Order.{greater, lesser}
-use Rattle.reals.specs.Limits.{limit, clamp}
+use Rattle.reals.specs.Limits.{clamp}
 use Rattle.reals.proofs.FloatOrder.{lt-nan}
 
 -- a NaN operand loses to a number, whichever it is
@@ -31,8 +31,3 @@ lesser-gives-first a b h l = simp (h, l)
 pub clamp-of-nan : clamp nan plusZero one ≡ one
 unfolding clamp greater lesser switch ofBits isNan lt
 clamp-of-nan = refl
-
--- `f64::clamp` gives a NaN back (F7)
-pub limit-of-nan : (min max : Float) → limit nan min max ≡ nan
-unfolding limit switch
-limit-of-nan min max = simp (lt-nan min .0, lt-nan max .1)

@@ -193,7 +193,7 @@ economizer-demand-3 =
     sequence-reads timeOfRow numbersFinite time-finite (λ s. s .last) (λ s x. readingIn (economizerSignals s x)) (λ s x. economizerNext s x (economizerSignals s x))
     economizerTold economizerReturned economizer-told economizer-returned economizerFresh stateOf economizerReading fresh-is (λ h. refl) reads moves
 
--- and at every place of it: place i tells what is read off the accepted ones of rows 0 to i
+-- and at every place of it: place i tells the refusal that fits row i, or what is read off the accepted ones of rows 0 to i
 pub economizer-demand-3-at : (other : Told EconomizerReading) (rows : List EconomizerRow) (i : ℕ) → i < length rows
     → getD (run economizerTold economizerReturned economizerFresh rows) i other ≡ readNewest verdictOf economizerReading other (reverse (take (suc i) rows))
 economizer-demand-3-at other rows i l = rw (economizer-demand-3 rows) (read-at verdictOf economizerReading other [] rows i l)

@@ -25,7 +25,7 @@ abbrev pub verdictOf : Past → EconomizerRow → Verdict
 verdictOf = verdictAfter timeOfRow numbersFinite
 
 -- ---- enable
--- the difference of E1: the outdoor temperature here less 294.15
+-- the difference of E1: the outdoor temperature here less 294.15; before row 0 there is none, and no reading asks for it
 abbrev pub difference : Past → Float
 difference [] = plusZero
 difference (x ∷ h) = sub binary64 (x .«outdoor_air_temperature») outdoorAirCutoff
@@ -49,7 +49,7 @@ unfoldable pub notEnabled : Past → Bool
 notEnabled [] = false
 notEnabled (x ∷ h) = not (isEnabled (x ∷ h))
 
--- a delay of n seconds: its run, the unbroken run of rows not enabled up to here, is there, and it began on row 0 or the gap sum from its start reached n
+-- a delay of n seconds: its run, the unbroken run of rows not enabled up to here, is there, and it began on row 0 or the gap sum from its start reached n at some row of it
 unfoldable pub delayDone : Float → Past → Bool
 delayDone n h = delayed timeOfRow n notEnabled h
 

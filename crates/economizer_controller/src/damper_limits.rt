@@ -27,8 +27,8 @@ pub fn minimum_outdoor_air_loop_enabled(supply_fan_status: bool, operation_mode:
     supply_fan_status & occupied
 }
 
-// The outdoor damper opens over the lower half of the loop signal, the return damper closes over the upper half; where the loop is off, the one stays shut
-// and the other open.
+// The outdoor damper's minimum rises over the lower half of the loop signal, the return damper's maximum falls over the upper half; where the loop is off, the
+// outdoor damper's maximum is shut and the return damper's minimum open.
 pub fn damper_limits(loop_signal: f64, enabled: bool) -> DamperLimits
     ensures { λ r. ⌜ r ≡ damperLimits «loop_signal» enabled ⌝ }
 {

@@ -243,7 +243,7 @@ module _ (x : FreezeRow) (h : Past) (o : T (inOrder timeOfRow (x ∷ h))) where
   call1-is = refl
 
   stage-is : stageNumber (latched stage3Call resetRow (x ∷ h)) (latched holding endOfHour (x ∷ h)) (latched stage1Call recovery (x ∷ h)) ≡ stage (x ∷ h)
-  unfolding stage
+  unfolding stage stageNumber
   stage-is = refl
 
   pub signals-read : freezeSignals (stateOf h) x ≡ signalsOf x h

@@ -66,7 +66,7 @@ freeze-demand-3 =
     sequence-reads timeOfRow numbersFinite time-finite (λ s. s .last) (λ s x. freezeSignals s x .stage) (λ s x. freezeNext s x (freezeSignals s x))
     freezeTold freezeReturned told-is returned-is freezeFresh stateOf stage fresh-is (λ h. refl) reads moves
 
--- and at every place of it: place i tells what is read off the accepted ones of rows 0 to i
+-- and at every place of it: place i tells the refusal that fits row i, or what is read off the accepted ones of rows 0 to i
 pub freeze-demand-3-at : (other : Told ℕ) (rows : List FreezeRow) (i : ℕ) → i < length rows
     → getD (run freezeTold freezeReturned freezeFresh rows) i other ≡ readNewest verdictOf stage other (reverse (take (suc i) rows))
 freeze-demand-3-at other rows i l = rw (freeze-demand-3 rows) (read-at verdictOf stage other [] rows i l)

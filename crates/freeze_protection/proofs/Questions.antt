@@ -3,7 +3,7 @@ use Prim.Native.Nat.{ℕ}
 use mathlib.Core.Path.{_≡_, refl}
 use mathlib.Core.Bool.{Bool, true, false, not, _&&_, _||_, cond}
 use mathlib.Core.List.{List, [], _∷_, _++_}
-use lib.Dec.{T}
+use lib.Dec.{T, eqb}
 use lib.Ieee.{Float, binary64, add, sub, lt, le, round, ofBits}
 use lib.Ieee.Fits.{and-l, and-r}
 use lib.Ieee.Scale.{finite}
@@ -32,7 +32,18 @@ use Rattle.freeze_protection.specs.Questions.{isAccepted, taken, tripped
 use Rattle.freeze_protection.proofs.Stages.{two-is}
 use Rattle.freeze_protection.proofs.Blocks.{cold-none, holding-none, hour-none, call3-none}
 
--- ---- (a) which rows can end a stage 3 trip: a trip that stands after the rows l stands after one row more unless that row is accepted and says reset
+-- ---- question 1, which rows can end a stage 3 trip. A trip stands exactly where the stage is 3
+pub trip-is-stage-3 : (l : List FreezeRow) → tripped l ≡ eqb (stageAfter l) 3
+unfolding tripped stageAfter stage
+trip-is-stage-3 l = go (latched stage3Call resetRow (accepted verdictOf l)) (latched holding endOfHour (accepted verdictOf l)) (latched stage1Call recovery (accepted verdictOf l))
+  where
+    go : (a b c : Bool) → a ≡ eqb (cond a 3 (cond b 2 (cond c 1 0))) 3
+    go true b c = refl
+    go false true c = refl
+    go false false true = refl
+    go false false false = refl
+
+-- a trip that stands after the rows l stands after one row more unless that row is accepted and says reset
 trip-step : (x : FreezeRow) (h : Past) → latched stage3Call resetRow h ≡ true → latched stage3Call resetRow (x ∷ h) ≡ not (x .«software_reset»)
 trip-step x h e = rw (latched-step stage3Call resetRow call3-none x h, e) (go (x .«software_reset») (stage3Call (x ∷ h) && not (stage3Call h)))
   where
@@ -49,7 +60,7 @@ trip-ends x l e = go (verdictOf (accepted verdictOf l) x)
     go Accepted = trip-step x (accepted verdictOf l) e
     go (Refused r) = e
 
--- ---- (c) a reset on the row of the rise loses that rise for as long as the call stays true
+-- a reset on the row of the rise loses that rise for as long as the call stays true
 pub rise-lost : (x : FreezeRow) (h : Past) → x .«software_reset» ≡ true → stage3Call (x ∷ h) ≡ true → (m : Past) → T (calling m (x ∷ h)) → latched stage3Call resetRow (m ++ (x ∷ h)) ≡ false
 rise-lost x h r c [] t = rw (latched-step stage3Call resetRow call3-none x h, r) refl
 rise-lost x h r c (y ∷ m) t =
@@ -68,24 +79,33 @@ rise-lost x h r c (y ∷ m) t =
     go false true = refl
     go false false = refl
 
--- ---- (b) how long stage 2 can stand: while no stage 3 call rises only an end-of-hour row ends it
-pub stage-2-ends : (x : FreezeRow) (h : Past) → stage h ≡ 2 → rises stage3Call (x ∷ h) ≡ false
-    → stage (x ∷ h) ≡ cond (endOfHour (x ∷ h)) (cond (latched stage1Call recovery (x ∷ h)) 1 0) 2
-unfolding stage stageNumber
-stage-2-ends x h e r =
-    let l = two-is (latched stage3Call resetRow h) (latched holding endOfHour h) (latched stage1Call recovery h) e in
-    rw (latched-step stage3Call resetRow call3-none x h, ← rises-step stage3Call call3-none x h, r, latched-step holding endOfHour holding-none x h, l .0, l .1)
-    (go (x .«software_reset») (endOfHour (x ∷ h)) (holding (x ∷ h) && not (holding h)) (latched stage1Call recovery (x ∷ h)))
-  where
-    go : (r e c o : Bool) → _≡_ {A = ℕ} (stageNumber (not r && (false || false)) (not e && (c || true)) o) (cond e (cond o 1 0) 2)
-    go true true c o = refl
-    go true false true o = refl
-    go true false false o = refl
-    go false true c o = refl
-    go false false true o = refl
-    go false false false o = refl
+-- and a new rise trips, on a row that does not say reset
+pub new-rise-trips : (x : FreezeRow) (h : Past) → rises stage3Call (x ∷ h) ≡ true → x .«software_reset» ≡ false → latched stage3Call resetRow (x ∷ h) ≡ true
+new-rise-trips x h c r = rw (latched-step stage3Call resetRow call3-none x h, ← rises-step stage3Call call3-none x h, c, r) refl
 
--- ---- and there is no bound: once its hold is off, stage 2 stands for as long as the accepted rows are mild
+-- ---- question 2, how long stage 2 can stand: the row after one of stage 2 has stage 3 where a stage 3 call rises and the row does not say reset; else stage 2 again,
+-- unless it is an end-of-hour row
+pub stage-2-ends : (x : FreezeRow) (h : Past) → stage h ≡ 2
+    → stage (x ∷ h) ≡ cond (rises stage3Call (x ∷ h) && not (x .«software_reset»)) 3 (cond (endOfHour (x ∷ h)) (cond (latched stage1Call recovery (x ∷ h)) 1 0) 2)
+unfolding stage stageNumber
+stage-2-ends x h e =
+    let l = two-is (latched stage3Call resetRow h) (latched holding endOfHour h) (latched stage1Call recovery h) e in
+    rw (latched-step stage3Call resetRow call3-none x h, ← rises-step stage3Call call3-none x h, latched-step holding endOfHour holding-none x h, l .0, l .1)
+    (go (x .«software_reset») (rises stage3Call (x ∷ h)) (endOfHour (x ∷ h)) (holding (x ∷ h) && not (holding h)) (latched stage1Call recovery (x ∷ h)))
+  where
+    go : (r s e c o : Bool) → _≡_ {A = ℕ} (stageNumber (not r && (s || false)) (not e && (c || true)) o) (cond (s && not r) 3 (cond e (cond o 1 0) 2))
+    go true true true c o = refl
+    go true true false true o = refl
+    go true true false false o = refl
+    go true false true c o = refl
+    go true false false true o = refl
+    go true false false false o = refl
+    go false true e c o = refl
+    go false false true c o = refl
+    go false false false true o = refl
+    go false false false false o = refl
+
+-- there is no bound: once its hold is off, stage 2 stands for as long as the accepted rows are mild
 -- a mild row is not below a level that is 276.45 K at the most, nor below that level and its band
 not-below : (x : FreezeRow) (l : Float) → T (le l (add binary64 coldStage2 band)) → T (mild x) → lt (x .«supply_air_temperature») l ≡ false
 not-below x l b m = le→not-lt (x .«supply_air_temperature») l (le-trans l (add binary64 coldStage2 band) (x .«supply_air_temperature») b m)
@@ -145,8 +165,11 @@ module _ (x : FreezeRow) (h : Past) (m : T (mild x)) (r : Released h) where
 
 module _ (l : List FreezeRow) (two : stageAfter l ≡ 2) (off : holdAfter l ≡ false) where
   released-here : Released (accepted verdictOf l)
-  unfolding stageAfter holdAfter stage
-  released-here = let b = two-is _ _ _ two in record { off = off; standing = b .1; untripped = b .0 }
+  unfolding stageAfter holdAfter stage stageNumber
+  released-here =
+      let h = accepted verdictOf l in
+      let b = two-is (latched stage3Call resetRow h) (latched holding endOfHour h) (latched stage1Call recovery h) two in
+      record { off = off; standing = b .1; untripped = b .0 }
 
   released-after : (m : List FreezeRow) → T (mildAfter m l) → Released (accepted verdictOf (m ++ l))
   unfolding accepted

@@ -66,11 +66,12 @@ abbrev pub rowsOf278 : List Float → List FreezeRow
 rowsOf278 [] = []
 rowsOf278 (t ∷ ts) = rowAt t 27800 ∷ rowsOf278 ts
 
--- times from 3900 s on that never fall, the newest first
+-- the newest of these times, or 3900 s, that of `hourDropped`
 abbrev pub newestTime : List Float → Float
 newestTime [] = whole 3900
 newestTime (t ∷ ts) = t
 
+-- times from 3900 s on that never fall, the newest first
 abbrev pub notFalling : List Float → Bool
 notFalling [] = true
 notFalling (t ∷ ts) = isTime t && (le (newestTime ts) t && notFalling ts)

@@ -1,6 +1,6 @@
 -- The freeze stage read off the past, with no state (document 01, 'The past, read without state'). A past holds the accepted rows up to here, the newest first.
 use Prim.Native.Nat.{ℕ}
-use mathlib.Core.Bool.{Bool, false, _||_}
+use mathlib.Core.Bool.{Bool, false, _||_, cond}
 use mathlib.Core.List.{List, [], _∷_}
 use lib.Ieee.{Float, binary64, add, sub, lt}
 use Rattle.reals.specs.Constants.{plusZero}
@@ -12,7 +12,6 @@ use Rattle.past.specs.Acceptance.{verdictAfter}
 use Rattle.freeze_protection.specs.declared.types.FreezeRow.{FreezeRow}
 use Rattle.freeze_protection.specs.Constants.{coldStage1, coldStage2, coldStage3, warmLevel, band, fiveMinutes, fifteenMinutes, hour}
 use Rattle.freeze_protection.specs.Verdict.{numbersFinite}
-use Rattle.freeze_protection.specs.Signals.{stageNumber}
 
 abbrev pub Past : Type 0
 Past = List FreezeRow
@@ -62,10 +61,10 @@ stage1Call h = passedFor fiveMinutes (cold coldStage1) h || endOfHour h
 unfoldable pub stage3Call : Past → Bool
 stage3Call h = passedFor fifteenMinutes (cold coldStage2) h || passedFor fiveMinutes (cold coldStage3) h
 
--- the stage: the call has risen at some row and no clearing row lies from there to here, ends counted; 3, cleared by a reset row, before 2, cleared by the end of
--- hour, before 1, cleared by a recovery, else 0
+-- the stage: its call has risen at some row and no clearing row lies from there to here, ends counted. 3 (its call, cleared by a reset row) before 2 (its hold, cleared
+-- by the end of hour) before 1 (its call, cleared by a recovery), else 0
 unfoldable pub stage : Past → ℕ
-stage h = stageNumber (latched stage3Call resetRow h) (latched holding endOfHour h) (latched stage1Call recovery h)
+stage h = cond (latched stage3Call resetRow h) 3 (cond (latched holding endOfHour h) 2 (cond (latched stage1Call recovery h) 1 0))
 
 -- the refusal, if any, that fits a row after these accepted rows: the list alone tells it
 abbrev pub verdictOf : Past → FreezeRow → Verdict

@@ -46,7 +46,7 @@ unfoldable pub stageNumber : Bool → Bool → Bool → ℕ
 stageNumber three two one = cond three 3 (cond two 2 (cond one 1 0))
 
 -- the three latches, and the two heating loops. Stage 3 (lat1): from a rise of its call to a reset. Stage 2 (lat2): from a rise of its hold until the hold has been on
--- for an hour (tim5, endStaTwo), which may never come (F5). Stage 1 (lat): from a rise of its call or of that end of stage 2 until the supply air has recovered (endStaOne)
+-- for an hour (tim5, endStaTwo), which may never come (F5). Stage 1 (lat): from a rise of its call (tim or that end of stage 2) until the supply air has recovered (endStaOne)
 unfoldable pub freezeSignals : FreezeState → FreezeRow → FreezeSignals
 freezeSignals state row =
     let t = row .time in

@@ -1,4 +1,4 @@
--- What each stage commands (document 01, 'Stage 3: fan off, ..'; Guideline 36, freeze protection). proofs/Stages.antt shows it of every accepted row.
+-- What each stage commands (document 01, 'Stage 3: fan off, ..'; Guideline 36, freeze protection). proofs/Stages.antt shows it of the commands of every row, whatever the state.
 use mathlib.Core.Path.{_≡_}
 use mathlib.Core.Bool.{true, false}
 use Rattle.reals.specs.Constants.{plusZero, one}

@@ -25,7 +25,7 @@ pub record Answer (Q : Type 0) : Type 0 where
   pub next : Q
   pub said : List ℕ
 
--- and the bytes of a line that has not ended
+-- the same, and the bytes of a line that has not ended
 pub record Fed (Q : Type 0) : Type 0 where
   pub next : Q
   pub part : List ℕ

@@ -12,7 +12,8 @@ use Rattle.logical.specs.Timer.{entryTime, elapsedTime}
 unfoldable pub heldTimerNew : Float → HeldTimerState
 heldTimerNew threshold = record { threshold = threshold; «entry_time» = Never; «prev_u» = false; passed = le threshold plusZero }
 
--- when u rises, passed = threshold <= 0; elsewhen u and the elapsed time is the threshold or more, true; elsewhen u falls, false; else it is kept
+-- when u rises, passed = threshold <= 0; elsewhen u and the elapsed time is the threshold or more, true; elsewhen u falls, false; else it is kept. (The
+-- model tests time >= t + entryTime, the Rust the difference of the two times.)
 unfoldable pub heldTimerOutput : HeldTimerState → Float → Bool → TimerOutput
 heldTimerOutput s t u =
     let rises = u && not (s .«prev_u») in

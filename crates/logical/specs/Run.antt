@@ -1,4 +1,4 @@
--- A run over a list of rows; and each timer, hold and delay on its own, run from a fresh state on.
+-- A run over a list of rows; and the held timer, the present timer, the hold and both delays on their own, run from a fresh state on.
 use Prim.Native.Nat.{ℕ}
 use mathlib.Core.Bool.{Bool, false}
 use mathlib.Core.List.{List, [], _∷_}

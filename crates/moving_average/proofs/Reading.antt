@@ -127,7 +127,3 @@ module _ {R : Type 0} (time input : R → Float) where
     -- and so the list alone tells whether refusal 4 fits
     pub is-full-reads : movingAverageIsFull (movingAverageOf time input h) t ≡ windowIsFull (map time h) t
     is-full-reads = good-full h (good h a) a t b
-
-  -- the arrays of the state keep their 512 entries
-  pub of-sized : (h : List R) → T (accepted (map time h)) → Sized (movingAverageOf time input h)
-  of-sized h a = good h a .sized

@@ -17,7 +17,7 @@ unfoldable pub integralAfter : Float → Point → List Point → Float
 integralAfter t p [] = p .integral
 integralAfter t p (q ∷ qs) = cond (le t (q .time)) (onLine t p q) (integralAfter t q qs)
 
--- through the points of the window and the present one: up to the first point its own integral
+-- at t, through the points of the window and the present one: at or before the first point that point's integral; with no point the present one
 unfoldable pub integralAt : Float → List Point → Point → Float
 integralAt t [] now = now .integral
 integralAt t (p ∷ ps) now = cond (le t (p .time)) (p .integral) (integralAfter t p (ps ++ (now ∷ [])))

@@ -1,4 +1,4 @@
--- Words for the helpers that work on the window's arrays where they stand, lent by reference. No public operation of state.rt is promised in these words.
+-- Words for the helpers that work on the window's arrays where they stand, lent by reference. Of state.rt only the helper `integrator` is promised in them.
 use Prim.Native.Nat.{ℕ, zero, suc}
 use mathlib.Core.Bool.{Bool, false, cond}
 use mathlib.Core.List.{List, [], _∷_}

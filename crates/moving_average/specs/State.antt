@@ -44,8 +44,8 @@ abbrev pub firstTime : Float → List Point → Float
 firstTime start [] = start
 firstTime start (p ∷ ps) = p .time
 
--- How long the averaged time is: `denom` of the Rust's `output`. From delta after the start on, it begins at the latest of cutoff, first point and start; before that at
--- the start, and startOffset is added.
+-- How long the averaged time is: `denom` of the Rust's `output`. From delta after the start on, it begins at the latest of cutoff, first point and start, and is at
+-- least minDelta; before that it begins at the start, and startOffset is added.
 unfoldable pub averagedTime : Float → Float → Float → Float
 averagedTime start first t =
     cond (le (add binary64 start delta) t)

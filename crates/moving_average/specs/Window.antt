@@ -14,7 +14,7 @@ abbrev pub point : Float → Float → Point
 point t mu = record { time = t; integral = mu }
 
 -- Two times are the same where they are equal and so are their sign bits: where they have one 64-bit pattern, as the Rust asks by `to_bits`
--- (proofs/SameTime.antt). So 0.0 and -0.0 are two times. A NaN, whose pattern is free, is the same as no time; no accepted row has one.
+-- (proofs/SameTime.antt). So 0.0 and -0.0 are two times. A NaN, whose pattern is free, is the same as none, itself included; no accepted row has one.
 unfoldable pub sameTime : Float → Float → Bool
 sameTime a b = eq a b && Bool·beq (isSignNegative a) (isSignNegative b)
 

@@ -25,7 +25,7 @@ impl MovingAverageState {
     // What is added to the time since the start while that is below DELTA.
     pub const START_OFFSET: f64 = 1e-3;
 
-    // The state without its arrays, which can then be lent beside it.
+    // Helper: the state without its arrays, which can then be lent beside it.
     pub fn integrator(self) -> Integrator
         ensures { λ r. ⌜ joined r (self .times) (self .integrals) ≡ self ⌝ }
     {

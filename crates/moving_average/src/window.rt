@@ -9,7 +9,7 @@ ghost use Rattle.moving_average.specs.State.{written};
 ghost use Rattle.moving_average.specs.Lent.{leading, lastIs, slot};
 use reals::sign::is_sign_negative;
 
-// Whether two times are the same: equal, with equal sign bits. So numbers of one 64-bit pattern are, as the Rust asks by `to_bits`; a NaN is the same as no time.
+// Whether two times are the same: equal, with equal sign bits. So numbers of one 64-bit pattern are, as the Rust asks by `to_bits`; a NaN is the same as none, itself included.
 pub fn same_time(a: f64, b: f64) -> bool
     ensures { λ r. ⌜ r ≡ sameTime a b ⌝ }
 {
@@ -43,7 +43,7 @@ pub fn old_points(times: &[f64; 512], n: usize, cutoff: f64) -> usize
     k
 }
 
-// The index of a new point, of a window that keeps n points.
+// The index of a new point, of a window that keeps n points: that of the last one where it is at the same time.
 pub fn slot(n: usize, same: bool) -> usize
     ensures { λ r. ⌜ r ≡ slot n same ⌝ }
 {

@@ -10,7 +10,7 @@ use lib.ListN.{length, getD, take}
 use Rattle.refusals.specs.declared.Verdict.{Verdict}
 use Rattle.refusals.specs.declared.Verdict.the-variants.{Accepted, Refused}
 use Rattle.logical.specs.Run.{run}
-use Rattle.past.specs.Whole.{Told, toldBy, nextBy, accepted, readAt, readAll}
+use Rattle.past.specs.Whole.{Told, toldBy, nextBy, stateAfter, accepted, readAt, readAll}
 
 -- S is the state, R the row and Y what is read; `good` says what holds of accepted rows
 module _ {S R Y : Type 0}
@@ -36,6 +36,12 @@ module _ {S R Y : Type 0}
       go : (v : Verdict) → nextBy v (stateOf (x ∷ accepted verdict l)) (stateOf (accepted verdict l)) ≡ stateOf (nextBy v (x ∷ accepted verdict l) (accepted verdict l))
       go Accepted = refl
       go (Refused r) = refl
+
+  -- the state that a run hands to a row is that of the accepted rows before
+  pub state-is : (l : List R) → stateAfter next (stateOf []) l ≡ stateOf (accepted verdict l)
+  unfolding stateAfter
+  state-is [] = unfold accepted in refl
+  state-is (x ∷ l) = rw (state-is l) (state-after x l)
 
   run-from : (l rows : List R) → run answer next (stateOf (accepted verdict l)) rows ≡ readAll verdict read l rows
   unfolding run readAll

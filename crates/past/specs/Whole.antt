@@ -19,6 +19,11 @@ abbrev pub nextBy : {S : Type 0} → Verdict → S → S → S
 nextBy Accepted next old = next
 nextBy (Refused r) next old = old
 
+-- the state that a run hands to the row after the rows l, refused ones too, the newest first
+unfoldable pub stateAfter : {S R : Type 0} → (S → R → S) → S → List R → S
+stateAfter next s [] = s
+stateAfter next s (x ∷ l) = next (stateAfter next s l) x
+
 -- `verdict h x` is the refusal, if any, that fits row x after the accepted rows h
 module _ {R : Type 0} (verdict : List R → R → Verdict) where
   -- the accepted rows of all rows up to here, the newest first: a row is accepted exactly when no refusal fits it

@@ -1,14 +1,14 @@
--- Numbers between limits, and sums and products that are numbers. Assumes nothing.
+-- Numbers between limits, a NaN between limits, and sums and products that are numbers. Assumes nothing.
 use Prim.Native.Nat.{ℕ, _+_, _-_, _*_}
 use mathlib.Core.Path.{_≡_, refl}
 use mathlib.Core.Bool.{Bool, true, false, not, _&&_, Bool·beq, cond, true≢false}
 use lib.Dec.{T, ltb}
 use lib.Ieee.{Float, nan, inf, fin, Format, up, down, lt, le, isNan, round, sum, add, mul, neg}
 use lib.Ieee.Scale.{finite}
-use Rattle.reals.specs.Limits.{clamp}
+use Rattle.reals.specs.Limits.{limit, clamp}
 use Rattle.reals.specs.Order.{greater, lesser}
 use Rattle.reals.specs.Switch.{switch}
-use Rattle.reals.proofs.FloatOrder.{le-numbers, lt→le, not-lt→le, le-refl}
+use Rattle.reals.proofs.FloatOrder.{le-numbers, lt→le, not-lt→le, le-refl, lt-nan}
 use Rattle.reals.proofs.Round.{plain, round-plain, neg-round}
 
 -- ---- the lesser of two
@@ -34,7 +34,7 @@ lesser-of-nan (inf s) = refl
 lesser-of-nan (fin s m e) = refl
 
 -- ---- `clamp` gives a number between its limits, at a NaN too
-clamp-above : (u min max : Float) → T (le min max) → T (le min (clamp u min max))
+pub clamp-above : (u min max : Float) → T (le min max) → T (le min (clamp u min max))
 unfolding clamp greater switch
 clamp-above u min max b = rw (le-numbers min max b .0) (go (lt min (lesser u max)) (lt→le min (lesser u max)))
   where
@@ -42,13 +42,18 @@ clamp-above u min max b = rw (le-numbers min max b .0) (go (lt min (lesser u max
     go true f = f tt
     go false f = le-refl min (le-numbers min max b .0)
 
-clamp-below : (u min max : Float) → T (le min max) → T (le (clamp u min max) max)
+pub clamp-below : (u min max : Float) → T (le min max) → T (le (clamp u min max) max)
 unfolding clamp greater switch
 clamp-below u min max b = rw (le-numbers min max b .0) (go (lt min (lesser u max)))
   where
     go : (l : Bool) → T (le (cond l (lesser u max) min) max)
     go true = lesser-at-most u max (le-numbers min max b .1)
     go false = b
+
+-- ---- `limit`, `f64::clamp`, gives a NaN back
+pub limit-of-nan : (min max : Float) → limit nan min max ≡ nan
+unfolding limit switch
+limit-of-nan min max = simp (lt-nan min .0, lt-nan max .1)
 
 -- between two finite numbers there is no infinity
 finite-between : (lo x hi : Float) → T (finite lo) → T (finite hi) → T (le lo x) → T (le x hi) → T (finite x)

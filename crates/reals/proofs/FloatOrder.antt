@@ -204,9 +204,6 @@ pub lt-trans : (x y z : Float) → T (lt x y) → T (lt y z) → T (lt x z)
 lt-trans x y z h k = lt-le x y z h (lt→le y z k)
 
 -- ---- `eq` is at most both ways
-level-both : (s t : Bool) (a b : ℕ) → T (atMost s a t b) → T (atMost t b s a) → T (level s a t b)
-level-both s t a b h k = either (T (level s a t b)) (below s a t b) (level s a t b) h (λ l. absurd (below-excludes s t a b (to-below s t a b l) (to-most t s b a k))) (λ l. l)
-
 pub le-antisym : (x y : Float) → T (le x y) → T (le y x) → T (eq x y)
 unfolding le
 le-antisym x y h k = either (T (eq x y)) (lt x y) (eq x y) h (λ l. absurd (lt-excludes x y l k)) (λ l. l)

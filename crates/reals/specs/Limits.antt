@@ -1,5 +1,5 @@
--- Limiters (CDL.Reals.Limiter). For numbers and min ≤ max both give the point of min .. max that is nearest. They part at a NaN, in the sign where
--- x and min are zeros of two signs, and where min > max.
+-- Limiters (CDL.Reals.Limiter). For numbers and min ≤ max both give the point of min .. max that is nearest to x. They part at a NaN, in the
+-- sign of a zero, and where min > max.
 use lib.Ieee.{Float, lt}
 use Rattle.reals.specs.Order.{greater, lesser}
 use Rattle.reals.specs.Switch.{switch}

@@ -1,5 +1,5 @@
 -- The two PI loops, sampled by forward Euler: CDL.Reals.PID and CDL.Reals.PIDWithReset with controllerType PI and reverseActing = true. The models integrate
--- over continuous time, the Rust takes one step a row; docs/DIFFERENCES.md has what follows.
+-- over continuous time, the Rust takes one step a row, of the gap before that row, so that row 0's error adds nothing; docs/DIFFERENCES.md has what follows.
 use mathlib.Core.Bool.{Bool, false, not, _&&_}
 use lib.Ieee.{Float, binary64, add, sub, mul, div}
 use Rattle.reals.specs.declared.seen.Seen.the-variants.{Never, At}

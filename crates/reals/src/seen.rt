@@ -39,7 +39,7 @@ impl Seen {
         }
     }
 
-    // t less the time seen, and 0 where that is below 0 or none was seen: the step of a sampled integral.
+    // t less the time seen, and 0 where that is below 0 or none was seen: the gap between two rows.
     pub fn gap(self, t: f64) -> f64
         ensures { λ r. ⌜ r ≡ seenGap self t ⌝ }
     {

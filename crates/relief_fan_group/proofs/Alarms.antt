@@ -48,16 +48,12 @@ module _ (row : ReliefRow) (signals : ReliefSignals) where
     alarm-3-does-nothing a = other-alarm-is-none (rw a level-3-is-another)
 
   module _ (alarm : List ℤ) where
-    -- the guard does not touch a speed, nor the mean
+    -- the guard does not touch a speed
     pub speeds-whatever-the-alarm : speedsOf (reliefCommands (withAlarm row alarm) signals) ≡ speedsOf (reliefCommands row signals)
     unfolding reliefCommands
     speeds-whatever-the-alarm = refl
 
-    -- nor what is commanded open before it
-    pub opened-whatever-the-alarm : openedOf (withAlarm row alarm) signals ≡ openedOf row signals
-    opened-whatever-the-alarm = refl
-
-    -- nor any signal, nor the next state
+    -- nor does an alarm touch any signal, or the next state
     pub signals-whatever-the-alarm : (blocks : ReliefBlocks) (average : Float) → reliefSignals blocks (withAlarm row alarm) average ≡ reliefSignals blocks row average
     unfolding reliefSignals pressureControl damperEnable stageUp stageDown
     signals-whatever-the-alarm blocks average = refl

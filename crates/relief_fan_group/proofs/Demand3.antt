@@ -18,16 +18,17 @@ use Rattle.refusals.specs.declared.Verdict.the-variants.{Accepted, Refused}
 use Rattle.past.specs.Stepped.{notBefore, inOrder}
 use Rattle.past.specs.Acceptance.{verdictAfter}
 use Rattle.logical.specs.Run.{run}
-use Rattle.past.specs.Whole.{Told, toldBy, nextBy, readAll}
+use Rattle.past.specs.Whole.{Told, toldBy, nextBy, stateAfter, readAll}
 use Rattle.past.specs.Whole as whole
 use Rattle.past.proofs.Stepped.{time-here}
-use Rattle.past.proofs.Whole.{good-accepted, run-reads, read-at, readNewest}
+use Rattle.past.proofs.Whole.{good-accepted, state-is, run-reads, read-at, readNewest}
 use Rattle.past.proofs.Sequence.{in-order}
 use Rattle.moving_average.specs.Past.{belowLast, timeAccepted, accepted, windowIsFull, movingAverageOf}
 use Rattle.moving_average.specs.State.{movingAverageIsFull}
 use Rattle.moving_average.proofs.Accepted.{accepted-cons}
 use Rattle.moving_average.proofs.Reading.{is-full-reads}
 use Rattle.relief_fan_group.specs.declared.types.ReliefRow.{ReliefRow}
+use Rattle.relief_fan_group.specs.declared.types.ReliefAnswer.the-variants as Answer
 use Rattle.relief_fan_group.specs.Verdict.{numbersFinite, orWindowFull, reliefVerdict}
 use Rattle.relief_fan_group.specs.Signals.{pressureControl, reliefSignals}
 use Rattle.relief_fan_group.specs.Commands.{reliefCommands}
@@ -133,3 +134,12 @@ relief-demand-3 rows = rw fresh-is (run-reads verdictOf good reliefReading relie
 pub relief-demand-3-at : (other : Told ReliefReading) (rows : List ReliefRow) (i : ℕ) → i < length rows
     → getD (run reliefTold reliefReturned reliefFresh rows) i other ≡ readNewest verdictOf reliefReading other (reverse (take (suc i) rows))
 relief-demand-3-at other rows i l = rw (relief-demand-3 rows) (read-at verdictOf reliefReading other [] rows i l)
+
+-- ---- an accepted row's commands are worked from the signals that its past gives
+pub commands-are : (x : ReliefRow) (l : List ReliefRow) → verdictOf (whole.accepted verdictOf l) x ≡ Accepted
+    → reliefRow (stateAfter reliefReturned reliefFresh l) x .answer ≡ Answer.Commands (reliefCommands x (signalsOf x (whole.accepted verdictOf l)))
+unfolding reliefRow
+commands-are x l e = rw (handed, verdict-is x (whole.accepted verdictOf l) (accepted-good l), e) (unfold stepBy in rw (signals-are x (whole.accepted verdictOf l)) refl)
+  where
+    handed : stateAfter reliefReturned reliefFresh l ≡ stateOf (whole.accepted verdictOf l)
+    handed = rw fresh-is (state-is verdictOf good reliefReading reliefTold reliefReturned stateOf good-none good-more answers moves l)

@@ -76,10 +76,18 @@ module _ {A : Type 0} (time : A → Float) (v : List A → Float) (w : Way) wher
             pre-is = unfold preUpdate in rw q refl;
           }
 
-  -- a pulse comes only where the row before had a request and no pulse before it, and has no pulse itself
+  -- a pulse comes only where there is a request here, and the row before had one too and no pulse before it, and has no pulse itself
   module _ (x : A) (h : List A) (f : T (finite (time x))) (on : pulse time (w .seconds) request (x ∷ h) ≡ true) where
     gated : (gateOf (x ∷ h) && le (w .seconds) (sub binary64 (time x) (lastRise time gateOf gate-none (x ∷ h)))) ≡ true
     gated = sym (running-step time gateOf gate-none (w .seconds) x h) ∙ sym (pulse-law time (w .seconds) request (x ∷ h)) ∙ on
+
+    pub request-here : request (x ∷ h) ≡ true
+    unfolding gate
+    request-here = go (request (x ∷ h)) (not (pulse time (w .seconds) request h)) (le (w .seconds) (sub binary64 (time x) (lastRise time gateOf gate-none (x ∷ h)))) gated
+      where
+        go : (a b c : Bool) → ((a && b) && c) ≡ true → a ≡ true
+        go true b c e = refl
+        go false b c e = e
 
     pub pulse-alone : pulse time (w .seconds) request h ≡ false
     unfolding gate

@@ -5,12 +5,14 @@ use mathlib.Core.Path.{_≡_, refl, sym, _∙_}
 use mathlib.Core.Bool.{Bool, true, false, not, _&&_, _||_, Bool·beq, cond}
 use mathlib.Core.List.{List, [], _∷_}
 use lib.Dec.{T}
-use lib.Ieee.{Float, binary64, add, sub, div, lt, le, ofBits}
+use lib.Ieee.{Float, nan, binary64, add, sub, div, lt, le, ofBits}
 use lib.Ieee.Scale.{finite}
-use Rattle.reals.specs.Constants.{plusZero}
+use Rattle.reals.specs.Constants.{plusZero, one}
 use Rattle.reals.specs.Four.{flag, each4}
 use Rattle.reals.specs.Limits.{limit}
 use Rattle.reals.specs.Switch.{switch}
+use Rattle.reals.proofs.FloatOrder.{lt-nan}
+use Rattle.reals.proofs.Between.{limit-of-nan}
 use Rattle.reals.proofs.Truth.{is-true, is-false, holds, fails, table1, table4}
 use Rattle.logical.specs.declared.latch.LatchState.{LatchState}
 use Rattle.logical.specs.declared.true_delay_on_init.TrueDelayOnInitState.{TrueDelayOnInitState}
@@ -35,13 +37,13 @@ use Rattle.relief_fan_group.specs.declared.types.ReliefBlocks.{ReliefBlo
 use Rattle.relief_fan_group.specs.declared.types.ReliefSignals.{ReliefSignals}
 use Rattle.relief_fan_group.specs.declared.types.StageUp.{StageUp}
 use Rattle.relief_fan_group.specs.declared.types.StageDown.{StageDown}
-use Rattle.relief_fan_group.specs.Constants.{stageUpLevel, hys, proofTime}
+use Rattle.relief_fan_group.specs.Constants.{minSpeed, stageUpLevel, hys, proofTime}
 use Rattle.relief_fan_group.specs.Signals.{pressureLoop, stageUp, stageDown, reliefSignals}
 use Rattle.relief_fan_group.specs.Commands.{fansOn}
 use Rattle.relief_fan_group.specs.Step.{reliefBlocks, reliefNext}
-use Rattle.relief_fan_group.specs.Reading.{Past, timeOfRow, mean, loopOf, upRequest, upPulse, downPulse, verdictOf}
+use Rattle.relief_fan_group.specs.Reading.{Past, timeOfRow, mean, loopOf, upRequest, downRequest, upPulse, downPulse, verdictOf}
 use Rattle.relief_fan_group.specs.Stages.{blocksOf, signalsOf, onAfterUp, offAfterDown, startsSettled, stopsSettled, upLatch, downLatch}
-use Rattle.relief_fan_group.proofs.Pulses.{pulse-alone, request-before, none-on-row-0}
+use Rattle.relief_fan_group.proofs.Pulses.{request-here, pulse-alone, request-before, none-on-row-0}
 use Rattle.relief_fan_group.proofs.Blocks.{upWay, downWay, up-pulse, down-pulse, before}
 use Rattle.relief_fan_group.proofs.Demand3.{good-order, accepted-good}
 
@@ -258,3 +260,20 @@ no-up-pulse-on-row-1 x y a b c = is-false (upPulse (x ∷ (y ∷ []))) (λ t. fa
 -- nor has a list of one accepted row a down pulse
 pub no-down-pulse-on-row-0 : (x : ReliefRow) → T (finite (x .time)) → downPulse (x ∷ []) ≡ false
 no-down-pulse-on-row-0 x a = none-on-row-0 timeOfRow loopOf downWay x a
+
+-- ---- a mean that is a NaN makes no request, and so there is no pulse
+loop-of-nan : pressureLoop nan ≡ nan
+unfolding pressureLoop div sub ofBits
+loop-of-nan = limit-of-nan plusZero one
+
+pub nan-makes-no-request : (x : ReliefRow) (h : Past) → mean (x ∷ h) ≡ nan → (upRequest (x ∷ h) ≡ false) × (downRequest (x ∷ h) ≡ false)
+nan-makes-no-request x h e = (
+  rw (since-step (λ s. lt (sub binary64 stageUpLevel hys) (loopOf s)) (λ s. lt stageUpLevel (loopOf s)) x h, e, loop-of-nan, lt-nan stageUpLevel .1, lt-nan (sub binary64 stageUpLevel hys) .1) refl,
+  rw (since-step (λ s. lt (loopOf s) (add binary64 minSpeed hys)) (λ s. lt (loopOf s) minSpeed) x h, e, loop-of-nan, lt-nan minSpeed .0, lt-nan (add binary64 minSpeed hys) .0) refl,
+)
+
+pub nan-makes-no-pulse : (x : ReliefRow) (h : Past) → T (finite (x .time)) → mean (x ∷ h) ≡ nan → (upPulse (x ∷ h) ≡ false) × (downPulse (x ∷ h) ≡ false)
+nan-makes-no-pulse x h f e = (
+  is-false (upPulse (x ∷ h)) (λ t. fails (upRequest (x ∷ h)) (nan-makes-no-request x h e .0) (holds (upRequest (x ∷ h)) (request-here timeOfRow loopOf upWay x h f (is-true (upPulse (x ∷ h)) t)))),
+  is-false (downPulse (x ∷ h)) (λ t. fails (downRequest (x ∷ h)) (nan-makes-no-request x h e .1) (holds (downRequest (x ∷ h)) (request-here timeOfRow loopOf downWay x h f (is-true (downPulse (x ∷ h)) t)))),
+)

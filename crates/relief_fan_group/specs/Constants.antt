@@ -1,4 +1,4 @@
--- The constants of the relief fan group as 64-bit patterns: pressure in pascal, speeds from 0 to 1, times in seconds.
+-- The constants of `relief_fan_group_trace` (relief_fan_group.rs) as 64-bit patterns: pressure in pascal, speeds from 0 to 1, times in seconds.
 use mathlib.Core.Bool.{false}
 use mathlib.Core.List.{List, [], _∷_}
 use lib.Ieee.{Float, binary64, add, ofBits}

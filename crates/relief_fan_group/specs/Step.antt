@@ -23,7 +23,7 @@ use Rattle.relief_fan_group.specs.Verdict.{reliefVerdict}
 use Rattle.relief_fan_group.specs.Signals.{reliefSignals}
 use Rattle.relief_fan_group.specs.Commands.{reliefCommands}
 
--- the blocks as ReliefFanGroup.mo parameterises them, before any row; pre and pre1 start true
+-- the blocks as `relief_fan_group_trace` makes them, before any row; pre and pre1 start true
 unfoldable pub reliefBlocks : ReliefBlocks
 reliefBlocks = record {
   last = Never;

@@ -1,5 +1,5 @@
 // The blocks as they are, made anew from their fields. A copy of a struct copies the unused bytes between its fields too; where the blocks are made
-// anew once a row, no copy of a row has to carry them.
+// anew once a row, the copies made for that row need not carry them.
 ghost use mathlib.Core.Path.{_≡_};
 use crate::types::ReliefBlocks;
 use logical::present_timer::PresentTimerState;

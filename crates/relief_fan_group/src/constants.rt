@@ -14,7 +14,7 @@ pub const DAMPER_OPEN: f64 = 0.05;
 
 pub const DAMPER_SHUT: f64 = 0.005;
 
-// The hysteresis of these four.
+// The hysteresis of the four levels of the pressure loop.
 pub const HYS: f64 = 0.005;
 
 // Orders and flags as numbers are told apart at one half.

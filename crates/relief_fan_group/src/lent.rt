@@ -20,7 +20,7 @@ pub struct LentStep {
     pub blocks: ReliefBlocks,
 }
 
-// Helper: `relief_row`.
+// Helper: what `relief_row` gives, with the window's arrays changed where they stand.
 pub fn relief_row_lent(
     integrator: Integrator,
     blocks: ReliefBlocks,

@@ -1,8 +1,8 @@
--- The alarm guard (document 01, R3), for every fan and every row: an unproven fan at alarm 2 has damper 0, and no other alarm and no proven fan is touched.
+-- The alarm guard (document 01, R3), for every fan and every row: an unproven fan at alarm 2 has damper 0, and no other alarm is touched.
 -- Assumes nothing.
 use Prim.Native.Nat.{ℕ}
 use mathlib.Core.Path.{_≡_, refl}
-use mathlib.Core.Bool.{Bool, true, false, not, _||_}
+use mathlib.Core.Bool.{Bool, true, false}
 use mathlib.Core.List.{List}
 use lib.IntN.{ℤ, pos}
 use lib.Ieee.{binary64, mul, ofBits}
@@ -11,18 +11,10 @@ use Rattle.reals.specs.Four.{flag}
 use Rattle.reals.specs.Switch.{boolToReal}
 use Rattle.relief_fans.specs.Commands.{level, isLevel2, alarmOffGuard, damperAt}
 
--- the guard lets every alarm but 2 through, and every proven fan
+-- the guard lets every alarm but 2 through
 pub other-alarm : (z : ℤ) (proof : Bool) → isLevel2 z ≡ false → alarmOffGuard z proof ≡ true
 unfolding alarmOffGuard
 other-alarm z proof e = rw e refl
-
-pub proven-fan : (z : ℤ) → alarmOffGuard z true ≡ true
-unfolding alarmOffGuard
-proven-fan z = or-true (isLevel2 z)
-  where
-    or-true : (b : Bool) → (not b || true) ≡ true
-    or-true true = refl
-    or-true false = refl
 
 pub level-3-is-another : isLevel2 (pos 3) ≡ false
 unfolding isLevel2

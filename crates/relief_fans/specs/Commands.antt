@@ -22,7 +22,7 @@ isLevel2 (negsuc n) = false
 unfoldable pub alarmOffGuard : ℤ → Bool → Bool
 alarmOffGuard alarm proof = not (isLevel2 alarm) || proof
 
--- the common speed where the fan is commanded on, else 0 (for a speed that is a number)
+-- the common speed where the fan is commanded on, else 0; where the common speed is a NaN or infinite, NaN
 abbrev pub fanSpeedAt : Float → List Bool → ℕ → Float
 fanSpeedAt base on i = mul binary64 base (boolToReal (flag on i))
 

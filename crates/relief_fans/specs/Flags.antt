@@ -24,6 +24,7 @@ andAt a u i = flag a i && u
 unfoldable pub andEach : List Bool → Bool → List Bool
 andEach a u = each4 (andAt a u)
 
+-- whether two flags are equal, `==` of the Rust
 abbrev pub equalAt : List Bool → List Bool → ℕ → Bool
 equalAt a b i = Bool·beq (flag a i) (flag b i)
 

@@ -10,7 +10,7 @@ pub fn alarm_off_guard(alarm: i64, proof: bool) -> bool
     (alarm != 2) | proof
 }
 
-// The common speed for each fan that is commanded on, 0 for the others.
+// The common speed for each fan that is commanded on, 0 for the others; where the common speed is a NaN, so are all four.
 pub fn fan_speed(speed_base: f64, log_swi: [bool; 4]) -> [f64; 4]
     ensures { λ r. ⌜ r ≡ fanSpeed «speed_base» «log_swi» ⌝ }
 {

@@ -5,7 +5,7 @@ use reals::sign::abs;
 use reals::switch::bool_to_real;
 use reals::switch::switch;
 
-// What stands after the order of a fan that may not be chosen, so that every fan that may comes before it.
+// What is added to the order of a fan that may not be chosen, so that every fan that may be chosen comes before it.
 pub const BEHIND: f64 = 5.0;
 
 // The orders of the enabled fans that are not proven on; 0, or minus the order, for the others.

@@ -1,14 +1,17 @@
 // Blocks on their own, on cases of document 01: a line for each case, with the block's output at each row, 1 for true and 0 for false.
 // The file stdout holds what the blocks of the Rust give on the same rows (compare/stored).
 use libc::STDOUT_FILENO;
+use logical::elapsed_timer::ElapsedTimerState;
 use logical::held_timer::HeldTimerState;
 use logical::present_timer::PresentTimerState;
 use logical::true_delay::TrueDelayState;
 use logical::true_delay_on_init::TrueDelayOnInitState;
 use logical::true_false_hold::TrueFalseHoldState;
 use reals::hysteresis::HysteresisState;
+use reals::kept_hysteresis::KeptHysteresisState;
 use reals::pid::PidState;
 use reals::threshold::ThresholdState;
+use row_lines::pattern::pattern;
 
 fn print(y: bool) {
     if y {
@@ -201,9 +204,76 @@ fn freeze_loop() {
     io::write_all(STDOUT_FILENO, b"\n");
 }
 
+// F7: at how many of rows 10 to 139 the loop's sum is between -132.4 and -132.3 times the sum before.
+fn growing_rows() -> u64 {
+    let mut s = PidState::new();
+    let mut t = 0.0;
+    let mut rows = 0;
+    for n in 0..140u64 {
+        let before = s.integral;
+        s = s.update(t, 279.15, 277.0);
+        t = t + 60.0;
+        let growth = s.integral / before;
+        if (n >= 10) & (-132.4 < growth) & (growth < -132.3) {
+            rows = rows + 1;
+        }
+    }
+    rows
+}
+
+fn freeze_loop_sum() {
+    io::write_all(
+        STDOUT_FILENO,
+        b"F7 its sum grows 132-fold with alternate signs, rows of 10 to 139: ",
+    );
+    io::print_decimal(STDOUT_FILENO, growing_rows());
+    io::write_all(STDOUT_FILENO, b"\n");
+}
+
+// The blocks of cdl_recurrences.rs that no sequence uses.
+fn kept(s: KeptHysteresisState, u: f64) -> KeptHysteresisState {
+    print(s.output(u));
+    s.update(u)
+}
+
+fn kept_hysteresis() {
+    io::write_all(
+        STDOUT_FILENO,
+        b"hysteresis -1 0 of cdl_recurrences.rs, 0.5 nan -1 -2 nan:",
+    );
+    let s = KeptHysteresisState::new(-1.0, 0.0, false);
+    let s = kept(s, 0.5);
+    let s = kept(s, 0.0 / 0.0);
+    let s = kept(s, -1.0);
+    let s = kept(s, -2.0);
+    kept(s, 0.0 / 0.0);
+    io::write_all(STDOUT_FILENO, b"\n");
+}
+
+fn elapsed(s: ElapsedTimerState, t: f64, u: bool) -> ElapsedTimerState {
+    io::write_all(STDOUT_FILENO, b" ");
+    io::print_decimal(STDOUT_FILENO, pattern(s.output(t, u)));
+    s.update(t, u)
+}
+
+fn elapsed_timer() {
+    io::write_all(
+        STDOUT_FILENO,
+        b"timer of cdl_recurrences.rs, true at 5 7.5 8, false at 9, true at 9.5 s, patterns:",
+    );
+    let s = ElapsedTimerState::new();
+    let s = elapsed(s, 5.0, true);
+    let s = elapsed(s, 7.5, true);
+    let s = elapsed(s, 8.0, true);
+    let s = elapsed(s, 9.0, false);
+    elapsed(s, 9.5, true);
+    io::write_all(STDOUT_FILENO, b"\n");
+}
+
 fn main() {
     cold_at_stage_1();
     freeze_loop();
+    freeze_loop_sum();
     held_timer();
     relief_delay();
     present_timer();
@@ -212,4 +282,6 @@ fn main() {
     outdoor_delay();
     return_delay();
     economizer_hold();
+    kept_hysteresis();
+    elapsed_timer();
 }

@@ -234,10 +234,10 @@ fn refusals() {
     case(s, 300.0, 277.0, false);
 }
 
-// The row at t of one of three lists: F7, off the setpoints; `input_row`; fine_step.
+// The row at t of one of three lists: F7, in stage 1 with the supply air off the setpoint of its loop; `input_row`; fine_step.
 fn row_at(list: u8, t: f64) -> FreezeRow {
     if list == 7 {
-        return case_row(t, 273.0, false);
+        return case_row(t, 277.0, false);
     }
     if list == 60 {
         return staged_row(t);

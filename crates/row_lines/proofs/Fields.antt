@@ -1,10 +1,9 @@
--- A field is read as a value exactly when its bytes are the column of that value. Assumes nothing.
+-- A field is read as a value exactly when its bytes are the column of that value; any pattern of a NaN is read as a NaN. Assumes nothing.
 use Prim.Native.Nat.{ℕ, suc, _-_, _≤_, _<_}
 use mathlib.Core.Path.{_≡_, refl, sym, ap, ap₂, _∙_}
 use mathlib.Core.List.{List}
 use mathlib.Core.Bool.{Bool, true, false, cond, not, _&&_, true≢false}
 use native.Mathlib.Omega.{arith}
-use lib.ListN.{length}
 use lib.Dec.{T, ltb, leb, eqb}
 use lib.IntN.{ℤ, pos, negsuc, natAbs}
 use lib.Signed.{mag, nonNeg}
@@ -24,7 +23,7 @@ use Rattle.row_lines.specs.Column.{column}
 use Rattle.row_lines.specs.Scan.{same, decimal, hasMinus, limit, scan}
 use Rattle.row_lines.specs.Field.{unsignedColumn, signedColumn, yesNoColumn, realColumn, withSign, isSigned64, realOf, readUnsigned, readSigned, readYesNo, readReal}
 use Rattle.row_lines.proofs.Scanning.{by-test}
-use Rattle.row_lines.proofs.Inverse.{both, same-eq, same-refl, column-decimal, column-minus, scan-column, scan-was, length-column}
+use Rattle.row_lines.proofs.Inverse.{both, same-eq, same-refl, column-decimal, column-minus, scan-column, scan-was}
 
 -- ---- an unsigned number
 
@@ -249,9 +248,3 @@ real-was c x = go (readUnsigned c) refl
 pub nan-prints : realColumn nan ≡ unsignedColumn 9221120237041090560
 unfolding toBits
 nan-prints = refl
-
--- ---- each column has 21 bytes
-
-pub length-signed : (z : ℤ) → length (signedColumn z) ≡ 21
-length-signed (pos n) = length-column false n
-length-signed (negsuc k) = length-column true (suc k)

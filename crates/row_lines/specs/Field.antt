@@ -1,5 +1,5 @@
--- The fields of a row line (document 01, 'Row lines'): their columns, and reading them. A field is read as the value n exactly when its bytes are the
--- column of n, and is badly formed else; proofs/Inverse.antt has this as theorems.
+-- The fields of a row line (document 01, 'Row lines'): their columns, and reading them. A field is read as a value exactly when its bytes are the
+-- column of that value, and is badly formed else; but every pattern of a NaN is read as a NaN, and one is written. proofs/Fields.antt has this as theorems.
 use Prim.Native.Nat.{ℕ, zero, suc}
 use mathlib.Core.List.{List}
 use mathlib.Core.Bool.{Bool, true, false, cond, _&&_}

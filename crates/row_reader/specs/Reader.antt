@@ -69,7 +69,7 @@ module _ {F R E : Type 0} (freshF : F) (freshR : R) (freshE : E) (lineF : F → 
   unfoldable pub readerFeed : Reader F R E → List ℕ → List ℕ → Fed (Reader F R E)
   readerFeed q p chunk = settled (feed readerLine q p chunk)
 
-  -- a first line that names a kind, and the chunk after it
+  -- a first line of a kind or of none, and the chunk after it
   abbrev pub readerBegun : Kind → List ℕ → Fed (Reader F R E)
   readerBegun kind chunk =
       let a = firstLine kind in

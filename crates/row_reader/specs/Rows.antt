@@ -7,7 +7,7 @@ use lib.Ieee.{Float}
 use Rattle.reals.specs.declared.seen.Seen.the-variants.{Never}
 use Rattle.reals.specs.Constants.{plusZero}
 use Rattle.row_lines.specs.Column.{Wrote}
-use Rattle.lines.specs.Lines.{Answer, Fed}
+use Rattle.lines.specs.Lines.{Fed}
 use Rattle.freeze_protection.specs.declared.types.FreezeState.{FreezeState}
 use Rattle.freeze_protection.specs.Step.{freezeFresh}
 use Rattle.economizer_controller.specs.declared.types.EconomizerState.{EconomizerState}
@@ -22,14 +22,10 @@ use Rattle.row_reader.specs.declared.kind.Kind.{Kind}
 use Rattle.row_reader.specs.declared.types.Phase.{Phase}
 use Rattle.row_reader.specs.declared.types.Phase.the-variants as phase
 use Rattle.row_reader.specs.declared.types.RowReader.{RowReader}
-use Rattle.row_reader.specs.Reader.{Reader, First, Freeze, Relief, Econ, Stopped, readerEnding, readerLine, readerOutput, readerFeed, readerBegun, readerWritten}
+use Rattle.row_reader.specs.Reader.{Reader, First, Freeze, Relief, Econ, Stopped, readerEnding, readerOutput, readerFeed, readerBegun, readerWritten}
 
 abbrev pub Rows : Type 0
 Rows = Reader FreezeState ReliefState EconomizerState
-
--- a line answered
-abbrev pub rowsLine : Rows → List ℕ → Answer Rows
-rowsLine = readerLine freezeFresh reliefFresh economizerFresh freezeAnswered reliefAnswered econAnswered
 
 -- the output of a whole input
 abbrev pub rowsOutput : List ℕ → List ℕ
@@ -39,7 +35,7 @@ rowsOutput = readerOutput freezeFresh reliefFresh economizerFresh freezeAnswered
 abbrev pub rowsFeed : Rows → List ℕ → List ℕ → Fed Rows
 rowsFeed = readerFeed freezeFresh reliefFresh economizerFresh freezeAnswered reliefAnswered econAnswered
 
--- a first line that names a kind, and the chunk after it
+-- a first line of a kind or of none, and the chunk after it
 abbrev pub rowsBegun : Kind → List ℕ → Fed Rows
 rowsBegun = readerBegun freezeFresh reliefFresh economizerFresh freezeAnswered reliefAnswered econAnswered
 

@@ -19,7 +19,7 @@ use lines::keep;
 use lines::line_end;
 use row_lines::line::write_status_line;
 
-// The chunk after a first line of a kind: its rows start from a fresh state.
+// The chunk after a first line: rows of its kind from a fresh state, or 6 where it names none.
 fn begin_chunk(
     kind: Kind,
     chunk: &[u8],

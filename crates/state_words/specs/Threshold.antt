@@ -1,4 +1,4 @@
--- `ThresholdState` of reals as words, and four of them.
+-- `ThresholdState` of reals as words.
 use Prim.Native.Nat.{ℕ}
 use mathlib.Core.Bool.{cond}
 use lib.Dec.{eqb}

@@ -1,4 +1,4 @@
--- `TrueDelayOnInitState` of logical as words, and four of them.
+-- `TrueDelayOnInitState` of logical as words.
 use Rattle.logical.specs.declared.true_delay_on_init.TrueDelayOnInitState.{TrueDelayOnInitState}
 use Rattle.state_words.specs.declared.true_delay_on_init.TrueDelayOnInitWords.{TrueDelayOnInitWords}
 use Rattle.state_words.specs.Flags.{flagWord, wordFlag}

@@ -7,6 +7,7 @@ use native.Mathlib.Omega.{arith}
 use lib.ListN.{length, take}
 use lib.Seq.{take-all}
 use lib.Ieee.{Float}
+use Rattle.row_lines.specs.Column.{Wrote}
 use Rattle.lines.specs.Lines.{Fed, FedAs, cut}
 use Rattle.row_reader.specs.declared.types.RowReader.{RowReader}
 use Rattle.row_reader.specs.Reader.{readerEnding}
@@ -15,7 +16,6 @@ use Rattle.state_words.specs.Reader.{readerWords, readerOf}
 use Rattle.state_words.proofs.StatesBack.{reader-back}
 use Rattle.woldgrater.specs.declared.chunks.State.{State}
 use Rattle.woldgrater.specs.Chunks.{memory, rowsIn, partIn, KeptOf, FedTo, EndedBy}
-use Rattle.woldgrater.proofs.Playing.{wrote-says}
 
 -- a number past the buffer of a line stands for all of it
 pub kept-whole : (kept : ℕ) → 256 ≤ kept → KeptOf kept 256
@@ -51,8 +51,5 @@ module _ (state : State) (reader : RowReader) (e : reader ≡ readerOf (state .r
       }
 
   -- the end of the input, said of that reader
-  pub ended-by : (out after : List ℕ) (r : ℕ) → Finished reader (partIn state line) out after r → EndedBy state line after r
-  ended-by out after r w times integrals =
-      let same : readerEnding (rowsOf reader times integrals) (partIn state line) ≡ readerEnding (rowsIn (memory state line times integrals)) (partIn state line) = λ i. readerEnding (rowsOf (e i) times integrals) (partIn state line) in
-      let says = wrote-says out after _ r (w times integrals) in
-      record { bytes = says .bytes ∙ same; long = says .long ∙ ap length same }
+  pub ended-by : (out after : List ℕ) (r : ℕ) → Finished reader (partIn state line) out after r → EndedBy state line out after r
+  ended-by out after r w times integrals = subst (λ (t : List ℕ). Wrote out 0 t r after r) (λ i. readerEnding (rowsOf (e i) times integrals) (partIn state line)) (w times integrals)

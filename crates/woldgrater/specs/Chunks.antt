@@ -4,13 +4,14 @@ use mathlib.Core.Path.{_≡_}
 use mathlib.Core.List.{List, [], _∷_, map}
 use lib.ListN.{length, take}
 use lib.Ieee.{Float}
+use Rattle.row_lines.specs.Column.{Wrote}
 use Rattle.lines.specs.Lines.{FedAs, whole}
 use Rattle.row_reader.specs.declared.types.Phase.the-variants as phase
 use Rattle.row_reader.specs.Reader.{readerEnding}
 use Rattle.row_reader.specs.Rows.{Rows, rowsOf, rowsFeed, freshAt}
 use Rattle.state_words.specs.Reader.{readerWords, readerOf}
 use Rattle.woldgrater.specs.declared.chunks.State.{State}
-use Rattle.woldgrater.specs.Play.{statusLength, room, refused, Says}
+use Rattle.woldgrater.specs.Play.{statusLength, room, refused}
 
 -- the state before the first chunk
 unfoldable pub started : State
@@ -47,13 +48,13 @@ pub record FedOrRefused (m : Memory) (chunk out : List ℕ) (next : Memory) (aft
   pub fed : room (length chunk) ≤ length out → FedTo m chunk next after sent
   pub kept : length out < room (length chunk) → (sent ≡ refused) × (next ≡ m) × (after ≡ out)
 
--- what the end of the input leaves at the start of the output; the window has no say in it
-abbrev pub EndedBy : State → List ℕ → List ℕ → ℕ → Type 0
-EndedBy state line after r = (times integrals : List Float) → Says (readerEnding (rowsIn (memory state line times integrals)) (partIn state line)) after r
+-- what the end of the input leaves: what is said of it at the start of the output, and every other byte as it was; the window has no say in it
+abbrev pub EndedBy : State → List ℕ → List ℕ → List ℕ → ℕ → Type 0
+EndedBy state line out after r = (times integrals : List Float) → Wrote out 0 (readerEnding (rowsIn (memory state line times integrals)) (partIn state line)) r after r
 
 -- said where there is room, and else refused, with the output as it was
 pub record EndedOrRefused (state : State) (line out after : List ℕ) (r : ℕ) : Type 0 where
-  pub ended : statusLength ≤ length out → EndedBy state line after r
+  pub ended : statusLength ≤ length out → EndedBy state line out after r
   pub kept : length out < statusLength → (r ≡ refused) × (after ≡ out)
 
 -- ---- the calls that a file takes

@@ -88,7 +88,7 @@ pub extern "C" fn woldgrater_feed(
 // The end of a row file, into an output with room for a status line.
 fn end_file(out: &mut [u8], line: &[u8; 256], state: State) -> usize
     requires { ⌜ statusLength ≤ length (now out) ⌝ }
-    ensures { λ r. ⌜ EndedBy state (now (line .entry)) (now (out .exit)) r ⌝ }
+    ensures { λ r. ⌜ EndedBy state (now (line .entry)) (now (out .entry)) (now (out .exit)) r ⌝ }
 {
     let words = state.reader;
     let reader = words.state();

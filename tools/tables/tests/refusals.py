@@ -5,7 +5,7 @@ import tempfile
 import unittest
 
 from tables import files
-from tables.fields import ROWS
+from tables.fields import NAN, ROWS
 from tables.tests.common import rows_of, table
 
 HEAD = ','.join(name for name, _ in ROWS['econ'])
@@ -46,10 +46,9 @@ class Refusals(unittest.TestCase):
                                   (MODE, ['9223372036854775808', '-9223372036854775809', '1' + '0' * 5000], 'is beyond 64 bits')):
             for text in texts:
                 with self.subTest(text=text, column=name):
-                    line = 3 + text.count('\n')
                     said = self.csv(HEAD, GOOD, cell(name, f'"{text}"'), GOOD)
                     shown = text if len(text) <= 40 else text[:40] + '..'
-                    self.assertEqual(said, f'FILE: line {line}, column {name}: {shown!r} {what}')
+                    self.assertEqual(said, f'FILE: line 3, column {name}: {shown!r} {what}')
 
     def test_the_first_line(self):
         for head, said in (
@@ -70,7 +69,8 @@ class Refusals(unittest.TestCase):
             with self.subTest(line=line):
                 self.assertEqual(self.csv(HEAD, GOOD, line, GOOD), f'FILE: line 3: {said}')
         self.assertIn('FILE: line 3: ', self.csv(HEAD, GOOD, '"0"x,0,0,0,0,1,1,0'))
-        self.assertIn('FILE: line 4: ', self.csv(HEAD, GOOD, '"0', GOOD))
+        for lines in (1, 10000):
+            self.assertEqual(self.csv(HEAD, GOOD, '"0', *[GOOD] * lines), 'FILE: line 3: a cell that does not end, is a quote left open?')
         said = self.refused(files.read_csv, 'econ', f'{HEAD}\n{GOOD}\n'.encode() + b'\xff' + GOOD.encode())
         self.assertEqual(said, 'FILE: line 3: not UTF-8')
 
@@ -114,8 +114,10 @@ class Refusals(unittest.TestCase):
                 self.assertEqual(self.refused(files.read_answers, 'econ', data), f'FILE: {said}')
         for rows, answers, said in (
                 (b'econ\n' + ROW, ANSWER * 2, 'FILE: 2 answers to the 1 rows of ROWS'),
-                (b'econ\n' + ROW, b'%21d\n' % 5, 'FILE: line 1: status 5, but line 2 of ROWS is not damaged'),
-                (b'econ\nx\n', ANSWER, 'FILE: line 1: status 0, but line 2 of ROWS is damaged')):
+                (b'econ\n' + ROW, b'%21d\n' % 5, 'FILE: line 1: status 5, but line 2 of ROWS gets 0'),
+                (b'econ\nx\n', ANSWER, 'FILE: line 1: status 0, but line 2 of ROWS gets 5'),
+                (b'econ\n' + ROW, b'%21d\n' % 6, 'FILE: line 1: status 6, but line 2 of ROWS gets 0'),
+                (b'econ\n' + b'%21d' % NAN + ROW[21:], ANSWER, 'FILE: line 1: status 0, but line 2 of ROWS gets 1')):
             self.assertEqual(self.refused(files.played, rows, 'ROWS', answers), said)
 
     def test_the_command_says_so_and_writes_nothing(self):
@@ -141,7 +143,8 @@ class Refusals(unittest.TestCase):
             with open(out, 'rb') as file:
                 self.assertEqual(file.read(), files.write_rows('econ', rows_of('econ', 1, 3)))
             self.assertEqual(table('to-rows', 'econ', os.path.join(folder, 'none'))[0], 1)
-            self.assertEqual(table('to-rows', 'econ', '-o', os.path.join(folder, 'none', 'out'), data=made)[0], 1)
+            status, _, said = table('to-rows', 'econ', '-o', os.path.join(folder, 'none', 'out'), data=made)
+            self.assertEqual((status, said), (1, f"tools/table: [Errno 2] No such file or directory: '{folder}/none/out'\n"))
             status, _, said = table('answers', 'freeze', '--rows', out, data=b'%21d\n' % 1 * 3)
             self.assertEqual((status, said), (1, f'{out}: line 1: econ where freeze is asked for\n'))
         self.assertEqual(table('to-rows', 'frieze')[0], 2)

@@ -1,3 +1,4 @@
+-- `output_buffer` has its length. Assumes nothing.
 use mathlib.Core.Path.{sym}
 use lib.ListN.{length-replicate}
 use Prim.Native.Nat.{ℕ}

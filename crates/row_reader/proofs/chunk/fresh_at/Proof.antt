@@ -1,3 +1,4 @@
+-- `fresh_at` meets its contract. Assumes nothing.
 use Rattle.row_reader.specs.Rows.{freshAt}
 use borrow.Author.Needs.{needs}
 use Rattle.row_reader.proofs.chunk.fresh_at.Statement.{statement}
