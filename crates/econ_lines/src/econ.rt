@@ -165,7 +165,7 @@ pub fn feed_econ(
     had: usize,
 ) -> EconFed
     requires { ⌜ (length (now line) ≡ 256) × (had ≤ 256) × (22 * (256 + length (now chunk)) ≤ length (now out)) ⌝ }
-    ensures { λ r. ⌜ FedAs (feed econAnswered start (take had (now (line .entry))) (now (chunk .entry))) (r .state) (now (line .exit)) (r .len) (now (out .exit)) (r .sent) ⌝ }
+    ensures { λ r. ⌜ FedAs (feed econAnswered start (take had (now (line .entry))) (now (chunk .entry))) (r .state) (now (line .exit)) (r .len) (now (out .entry)) (now (out .exit)) (r .sent) ⌝ }
 {
     let mut state = start;
     let mut len = had;

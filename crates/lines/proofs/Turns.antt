@@ -10,7 +10,7 @@ use lib.Seq.{take-all, drop-cons, drop-drop, length-take-le}
 use lib.Dec.{ltb, eqb}
 use borrow.Author.Tests.{ltb-true, ltb-false, lt-ltb, le-ltb, eqb-true, eqb-false, eq-eqb, ne-eqb}
 use Rattle.row_lines.specs.Column.{over}
-use Rattle.row_lines.proofs.Writing.{take-over}
+use Rattle.row_lines.proofs.Writing.{take-over, drop-over}
 use Rattle.lines.specs.Lines.{Answer, Fed, feed, cut, beforeNewline, Kept, Answered, FedAs}
 use Rattle.lines.proofs.Cutting.{after, feed-empty, feed-newline, feed-byte}
 
@@ -150,11 +150,12 @@ module _ {Q : Type 0} (lineOf : Q → List ℕ → Answer Q) (line-cut : (q : Q)
     pub out-long : length out ≡ length out₀
     pub part-fits : len ≤ 256
     pub out-fits : sent + 22 * len ≤ 22 * (256 + i)
+    pub out-rest : drop sent out ≡ drop sent out₀
     pub led : feed lineOf q₀ p₀ chunk ≡ after lineOf (take sent out) (feed lineOf q (take len line) (drop i chunk))
 
   pub start : (chunk out : List ℕ) (q : Q) (line : List ℕ) (had : ℕ) → length line ≡ 256 → had ≤ 256 → Held chunk out q (take had line) line out q had 0 0
   start chunk out q line had l h =
-      record { in-chunk = omega arith; line-long = l; out-long = refl; part-fits = h; out-fits = omega arith; led = refl }
+      record { in-chunk = omega arith; line-long = l; out-long = refl; part-fits = h; out-fits = omega arith; out-rest = refl; led = refl }
 
   module _ (chunk out₀ : List ℕ) (q₀ : Q) (p₀ line out : List ℕ) (q : Q) (len sent i : ℕ) (h : Held chunk out₀ q₀ p₀ line out q len sent i)
       (fits : 22 * (256 + length chunk) ≤ length out₀) (j : ℕ) (found : j ≡ i + beforeNewline (drop i chunk)) where
@@ -188,6 +189,12 @@ module _ {Q : Type 0} (lineOf : Q → List ℕ → Answer Q) (line-cut : (q : Q)
             out-long = l ∙ h .out-long;
             part-fits = omega arith;
             out-fits = omega (arith, a .text .place, length-take (j - i) (drop i chunk), h .out-fits, h .in-chunk, found);
+            out-rest =
+                ap (λ (x : List ℕ). drop sent′ x) (a .text .bytes)
+                ∙ ap (λ (n : ℕ). drop n (over out sent (d .said))) (a .text .place)
+                ∙ drop-over out sent (d .said) w
+                ∙ drop-more (length (d .said))
+                ∙ sym (ap (λ (n : ℕ). drop n out₀) (a .text .place));
             led =
                 h .led
                 ∙ ap (λ (f : Fed Q). after lineOf (take sent out) f)
@@ -198,12 +205,15 @@ module _ {Q : Type 0} (lineOf : Q → List ℕ → Answer Q) (line-cut : (q : Q)
                 ∙ sym (λ m. after lineOf (o m) (feed lineOf (a .state m) [] (drop (j + 1) chunk)));
           }
         where
+          drop-more : (n : ℕ) → drop (sent + n) out ≡ drop (sent + n) out₀
+          drop-more n = sym (drop-drop n sent out) ∙ ap (λ (x : List ℕ). drop n x) (h .out-rest) ∙ drop-drop n sent out₀
+
           again : (x y : List ℕ) (f : Fed Q) → after lineOf x (after lineOf y f) ≡ after lineOf (x ++ y) f
           again x y f = ap (λ (z : List ℕ). record { next = f .next; part = f .part; said = z }) (sym (append-assoc x y (f .said)))
 
     -- no newline is left: the rest is kept
     pub end : length chunk ≤ j → (line′ : List ℕ) (len′ : ℕ) → Kept line len (take (length chunk - i) (drop i chunk)) line′ len′
-        → FedAs (feed lineOf q₀ p₀ chunk) q line′ len′ out sent
+        → FedAs (feed lineOf q₀ p₀ chunk) q line′ len′ out₀ out sent
     end none line′ len′ kept =
         let t : take (length chunk - i) (drop i chunk) ≡ drop i chunk = take-all (length chunk - i) (drop i chunk) (omega (arith, length-drop i chunk)) in
         let b : beforeNewline (drop i chunk) ≡ length (drop i chunk) = omega (arith, length-drop i chunk, newline-within (drop i chunk), found, h .in-chunk) in
@@ -216,4 +226,5 @@ module _ {Q : Type 0} (lineOf : Q → List ℕ → Answer Q) (line-cut : (q : Q)
           part-fits = kept .fits;
           said = sym (ap (λ (f : Fed Q). f .said) e);
           said-fits = omega (arith, h .out-fits, h .out-long, h .in-chunk);
+          rest = h .out-rest;
         }

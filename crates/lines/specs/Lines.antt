@@ -3,7 +3,7 @@ use Prim.Native.Nat.{ℕ, suc, _≤_}
 use mathlib.Core.Path.{_≡_}
 use mathlib.Core.List.{List, [], _∷_, _++_}
 use mathlib.Core.Bool.{cond}
-use lib.ListN.{length, take}
+use lib.ListN.{length, take, drop}
 use lib.Dec.{eqb}
 use Rattle.row_lines.specs.Line.{newline}
 use Rattle.row_lines.specs.Column.{Wrote}
@@ -93,10 +93,11 @@ pub record Answered {Q : Type 0} (a : Answer Q) (buffer : List ℕ) (at : ℕ) (
   pub state : next ≡ a .next
   pub text : Wrote buffer at (a .said) (length (a .said)) after place
 
--- what feeding a chunk leaves: the state, the part of a line in its buffer, and what is to be written at the start of another
-pub record FedAs {Q : Type 0} (f : Fed Q) (next : Q) (line : List ℕ) (len : ℕ) (out : List ℕ) (sent : ℕ) : Type 0 where
+-- what feeding a chunk leaves: the state, the part of a line in its buffer, what is to be written at the start of another, and the rest of that as it was before
+pub record FedAs {Q : Type 0} (f : Fed Q) (next : Q) (line : List ℕ) (len : ℕ) (before out : List ℕ) (sent : ℕ) : Type 0 where
   pub state : next ≡ f .next
   pub part : take len line ≡ cut (f .part)
   pub part-fits : len ≤ 256
   pub said : take sent out ≡ f .said
   pub said-fits : sent ≤ length out
+  pub rest : drop sent out ≡ drop sent before

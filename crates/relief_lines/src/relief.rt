@@ -240,7 +240,7 @@ pub fn feed_relief(
     had: usize,
 ) -> ReliefFed
     requires { ⌜ (length (now times) ≡ 512) × (length (now integrals) ≡ 512) × (length (now line) ≡ 256) × (had ≤ 256) × (22 * (256 + length (now chunk)) ≤ length (now out)) ⌝ }
-    ensures { λ r. ⌜ (length (now (times .exit)) ≡ 512) × (length (now (integrals .exit)) ≡ 512) × FedAs (feed reliefAnswered (lentState start begun (now (times .entry)) (now (integrals .entry))) (take had (now (line .entry))) (now (chunk .entry))) (lentState (r .integrator) (r .blocks) (now (times .exit)) (now (integrals .exit))) (now (line .exit)) (r .len) (now (out .exit)) (r .sent) ⌝ }
+    ensures { λ r. ⌜ (length (now (times .exit)) ≡ 512) × (length (now (integrals .exit)) ≡ 512) × FedAs (feed reliefAnswered (lentState start begun (now (times .entry)) (now (integrals .entry))) (take had (now (line .entry))) (now (chunk .entry))) (lentState (r .integrator) (r .blocks) (now (times .exit)) (now (integrals .exit))) (now (line .exit)) (r .len) (now (out .entry)) (now (out .exit)) (r .sent) ⌝ }
 {
     let mut integrator = start;
     let mut blocks = begun;

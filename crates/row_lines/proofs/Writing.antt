@@ -143,7 +143,7 @@ module _ (l : List ℕ) (at : ℕ) (a : List ℕ) (h : at + length a ≤ length 
   pub take-over : take (at + length a) (over l at a) ≡ take at l ++ a
   take-over = take-at (take at l ++ a) (drop (at + length a) l) (at + length a) head-length
 
-  drop-over : drop (at + length a) (over l at a) ≡ drop (at + length a) l
+  pub drop-over : drop (at + length a) (over l at a) ≡ drop (at + length a) l
   drop-over = drop-at (take at l ++ a) (drop (at + length a) l) (at + length a) head-length
 
   pub length-over : length (over l at a) ≡ length l

@@ -7,7 +7,7 @@ use lib.ListN.{length, take, drop, replicate, length-take}
 use lib.Ieee.{Float}
 use Rattle.row_lines.specs.Column.{Wrote, over}
 use Rattle.row_lines.specs.Line.{statusLine}
-use Rattle.row_lines.proofs.Writing.{take-over}
+use Rattle.row_lines.proofs.Writing.{take-over, drop-over}
 use Rattle.lines.specs.Lines.{feed, whole, beforeNewline, Kept, FedAs}
 use Rattle.reals.specs.Constants.{plusZero}
 use Rattle.moving_average.specs.State.{movingAverageNew}
@@ -62,106 +62,106 @@ fresh-rows reader p times integrals e = at-phase reader times integrals p (ap (�
 
 -- ---- a chunk of the lines of a kind
 
-module _ (next : RowReader) (times integrals : List Float) (p chunk buffer : List ℕ) (len : ℕ) (out : List ℕ) (sent : ℕ) where
+module _ (next : RowReader) (times integrals : List Float) (p chunk buffer : List ℕ) (len : ℕ) (before out : List ℕ) (sent : ℕ) where
   -- from a reader at that phase
   module _ (reader : RowReader) (times₀ integrals₀ : List Float) where
     pub freeze-goes-on : reader .phase ≡ phase.Freeze → next .phase ≡ phase.Freeze
-        → FedAs (feed freezeAnswered (reader .freeze) p chunk) (next .freeze) buffer len out sent
-        → FedAs (rowsFeed (rowsOf reader times₀ integrals₀) p chunk) (rowsOf next times integrals) buffer len out sent
+        → FedAs (feed freezeAnswered (reader .freeze) p chunk) (next .freeze) buffer len before out sent
+        → FedAs (rowsFeed (rowsOf reader times₀ integrals₀) p chunk) (rowsOf next times integrals) buffer len before out sent
     freeze-goes-on e d h =
-        fed-is _ _ _ _ buffer len out sent (ap (λ (q : Rows). rowsFeed q p chunk) (sym (at-phase reader times₀ integrals₀ phase.Freeze e)))
+        fed-is _ _ _ _ buffer len before out sent (ap (λ (q : Rows). rowsFeed q p chunk) (sym (at-phase reader times₀ integrals₀ phase.Freeze e)))
         (sym (at-phase next times integrals phase.Freeze d))
-        (freeze-fed freezeFresh reliefFresh economizerFresh freezeAnswered reliefAnswered econAnswered p chunk buffer len out sent _ _ h)
+        (freeze-fed freezeFresh reliefFresh economizerFresh freezeAnswered reliefAnswered econAnswered p chunk buffer len before out sent _ _ h)
 
     pub econ-goes-on : reader .phase ≡ phase.Econ → next .phase ≡ phase.Econ
-        → FedAs (feed econAnswered (reader .econ) p chunk) (next .econ) buffer len out sent
-        → FedAs (rowsFeed (rowsOf reader times₀ integrals₀) p chunk) (rowsOf next times integrals) buffer len out sent
+        → FedAs (feed econAnswered (reader .econ) p chunk) (next .econ) buffer len before out sent
+        → FedAs (rowsFeed (rowsOf reader times₀ integrals₀) p chunk) (rowsOf next times integrals) buffer len before out sent
     econ-goes-on e d h =
-        fed-is _ _ _ _ buffer len out sent (ap (λ (q : Rows). rowsFeed q p chunk) (sym (at-phase reader times₀ integrals₀ phase.Econ e)))
+        fed-is _ _ _ _ buffer len before out sent (ap (λ (q : Rows). rowsFeed q p chunk) (sym (at-phase reader times₀ integrals₀ phase.Econ e)))
         (sym (at-phase next times integrals phase.Econ d))
-        (econ-fed freezeFresh reliefFresh economizerFresh freezeAnswered reliefAnswered econAnswered p chunk buffer len out sent _ _ h)
+        (econ-fed freezeFresh reliefFresh economizerFresh freezeAnswered reliefAnswered econAnswered p chunk buffer len before out sent _ _ h)
 
     pub relief-goes-on : reader .phase ≡ phase.Relief → next .phase ≡ phase.Relief
-        → FedAs (feed reliefAnswered (lentState (reader .integrator) (reader .blocks) times₀ integrals₀) p chunk) (lentState (next .integrator) (next .blocks) times integrals) buffer len out sent
-        → FedAs (rowsFeed (rowsOf reader times₀ integrals₀) p chunk) (rowsOf next times integrals) buffer len out sent
+        → FedAs (feed reliefAnswered (lentState (reader .integrator) (reader .blocks) times₀ integrals₀) p chunk) (lentState (next .integrator) (next .blocks) times integrals) buffer len before out sent
+        → FedAs (rowsFeed (rowsOf reader times₀ integrals₀) p chunk) (rowsOf next times integrals) buffer len before out sent
     relief-goes-on e d h =
-        fed-is _ _ _ _ buffer len out sent (ap (λ (q : Rows). rowsFeed q p chunk) (sym (at-phase reader times₀ integrals₀ phase.Relief e)))
+        fed-is _ _ _ _ buffer len before out sent (ap (λ (q : Rows). rowsFeed q p chunk) (sym (at-phase reader times₀ integrals₀ phase.Relief e)))
         (sym (at-phase next times integrals phase.Relief d))
-        (relief-fed freezeFresh reliefFresh economizerFresh freezeAnswered reliefAnswered econAnswered p chunk buffer len out sent _ _ h)
+        (relief-fed freezeFresh reliefFresh economizerFresh freezeAnswered reliefAnswered econAnswered p chunk buffer len before out sent _ _ h)
 
 -- from a reader before the end of its first line
 pub first-goes-on : (reader : RowReader) (times integrals : List Float) → reader .phase ≡ phase.First
-    → (p chunk : List ℕ) (q : Rows) (buffer : List ℕ) (len : ℕ) (out : List ℕ) (sent : ℕ) → FedAs (rowsFeed First p chunk) q buffer len out sent
-    → FedAs (rowsFeed (rowsOf reader times integrals) p chunk) q buffer len out sent
-first-goes-on reader times integrals e p chunk q buffer len out sent =
-    fed-is _ _ q q buffer len out sent (ap (λ (x : Rows). rowsFeed x p chunk) (sym (at-phase reader times integrals phase.First e))) refl
+    → (p chunk : List ℕ) (q : Rows) (buffer : List ℕ) (len : ℕ) (before out : List ℕ) (sent : ℕ) → FedAs (rowsFeed First p chunk) q buffer len before out sent
+    → FedAs (rowsFeed (rowsOf reader times integrals) p chunk) q buffer len before out sent
+first-goes-on reader times integrals e p chunk q buffer len before out sent =
+    fed-is _ _ q q buffer len before out sent (ap (λ (x : Rows). rowsFeed x p chunk) (sym (at-phase reader times integrals phase.First e))) refl
 
 -- a reader that has stopped
 pub stays-stopped : (reader : RowReader) (times integrals : List Float) (p chunk buffer out : List ℕ) → reader .phase ≡ phase.Stopped
-    → FedAs (rowsFeed (rowsOf reader times integrals) p chunk) (rowsOf reader times integrals) buffer 0 out 0
+    → FedAs (rowsFeed (rowsOf reader times integrals) p chunk) (rowsOf reader times integrals) buffer 0 out out 0
 stays-stopped reader times integrals p chunk buffer out e =
     let a = at-phase reader times integrals phase.Stopped e in
-    fed-is _ _ _ _ buffer 0 out 0 (ap (λ (q : Rows). rowsFeed q p chunk) (sym a)) (sym a)
+    fed-is _ _ _ _ buffer 0 out out 0 (ap (λ (q : Rows). rowsFeed q p chunk) (sym a)) (sym a)
     (stopped-fed freezeFresh reliefFresh economizerFresh freezeAnswered reliefAnswered econAnswered p chunk buffer out)
 
 -- ---- the first line
 
 module _ (had : ℕ) (buffer chunk : List ℕ) (j : ℕ) (found : j ≡ 0 + beforeNewline (drop 0 chunk)) (buffer′ : List ℕ) (len : ℕ)
     (kept : Kept buffer had (take j chunk) buffer′ len) where
-  pub first-line-ends : j < length chunk → (k : Kind) → k ≡ kindOf (take len buffer′) → (q : Rows) (line : List ℕ) (after : ℕ) (out : List ℕ) (sent : ℕ)
-      → FedAs (rowsBegun k (take (length chunk - (j + 1)) (drop (j + 1) chunk))) q line after out sent
-      → FedAs (rowsFeed First (take had buffer) chunk) q line after out sent
-  first-line-ends d k n q line after out sent =
-      fed-is _ _ q q line after out sent
+  pub first-line-ends : j < length chunk → (k : Kind) → k ≡ kindOf (take len buffer′) → (q : Rows) (line : List ℕ) (after : ℕ) (before out : List ℕ) (sent : ℕ)
+      → FedAs (rowsBegun k (take (length chunk - (j + 1)) (drop (j + 1) chunk))) q line after before out sent
+      → FedAs (rowsFeed First (take had buffer) chunk) q line after before out sent
+  first-line-ends d k n q line after before out sent =
+      fed-is _ _ q q line after before out sent
       (first-ends freezeFresh reliefFresh economizerFresh freezeAnswered reliefAnswered econAnswered had buffer chunk j (found-at chunk j found) d buffer′ len kept k n)
       refl
 
   pub first-line-waits : length chunk ≤ j → (next : RowReader) (times integrals : List Float) → next ≡ freshAt phase.First → (out : List ℕ)
-      → FedAs (rowsFeed First (take had buffer) chunk) (rowsOf next times integrals) buffer′ len out 0
+      → FedAs (rowsFeed First (take had buffer) chunk) (rowsOf next times integrals) buffer′ len out out 0
   first-line-waits d next times integrals e out =
-      fed-is _ _ _ _ buffer′ len out 0 refl (sym (fresh-rows next phase.First times integrals e))
+      fed-is _ _ _ _ buffer′ len out out 0 refl (sym (fresh-rows next phase.First times integrals e))
       (first-part freezeFresh reliefFresh economizerFresh freezeAnswered reliefAnswered econAnswered had buffer chunk j (found-at chunk j found)
       (omega (arith, found-within chunk j found)) buffer′ len kept out)
 
 -- after a first line of that kind
-module _ (next : RowReader) (times integrals : List Float) (chunk buffer : List ℕ) (len : ℕ) (out : List ℕ) (sent : ℕ) (k : Kind) (p : Phase) (fresh : RowReader) (f : fresh ≡ freshAt p) where
-  pub freeze-begins : k ≡ kind.Freeze → next .phase ≡ phase.Freeze → FedAs (feed freezeAnswered (fresh .freeze) [] chunk) (next .freeze) buffer len out sent
-      → FedAs (rowsBegun k chunk) (rowsOf next times integrals) buffer len out sent
+module _ (next : RowReader) (times integrals : List Float) (chunk buffer : List ℕ) (len : ℕ) (before out : List ℕ) (sent : ℕ) (k : Kind) (p : Phase) (fresh : RowReader) (f : fresh ≡ freshAt p) where
+  pub freeze-begins : k ≡ kind.Freeze → next .phase ≡ phase.Freeze → FedAs (feed freezeAnswered (fresh .freeze) [] chunk) (next .freeze) buffer len before out sent
+      → FedAs (rowsBegun k chunk) (rowsOf next times integrals) buffer len before out sent
   unfolding readerFeed
   freeze-begins e d h =
-      fed-is _ _ _ _ buffer len out sent
+      fed-is _ _ _ _ buffer len before out sent
       (ap (λ (s : _). rowsFeed (Freeze s) [] chunk) (ap (λ (x : RowReader). x .freeze) f ∙ fresh-freeze p) ∙ ap (λ (x : Kind). rowsBegun x chunk) (sym e))
       (sym (at-phase next times integrals phase.Freeze d))
-      (freeze-fed freezeFresh reliefFresh economizerFresh freezeAnswered reliefAnswered econAnswered [] chunk buffer len out sent _ _ h)
+      (freeze-fed freezeFresh reliefFresh economizerFresh freezeAnswered reliefAnswered econAnswered [] chunk buffer len before out sent _ _ h)
 
-  pub econ-begins : k ≡ kind.Econ → next .phase ≡ phase.Econ → FedAs (feed econAnswered (fresh .econ) [] chunk) (next .econ) buffer len out sent
-      → FedAs (rowsBegun k chunk) (rowsOf next times integrals) buffer len out sent
+  pub econ-begins : k ≡ kind.Econ → next .phase ≡ phase.Econ → FedAs (feed econAnswered (fresh .econ) [] chunk) (next .econ) buffer len before out sent
+      → FedAs (rowsBegun k chunk) (rowsOf next times integrals) buffer len before out sent
   unfolding readerFeed
   econ-begins e d h =
-      fed-is _ _ _ _ buffer len out sent
+      fed-is _ _ _ _ buffer len before out sent
       (ap (λ (s : _). rowsFeed (Econ s) [] chunk) (ap (λ (x : RowReader). x .econ) f ∙ fresh-econ p) ∙ ap (λ (x : Kind). rowsBegun x chunk) (sym e))
       (sym (at-phase next times integrals phase.Econ d))
-      (econ-fed freezeFresh reliefFresh economizerFresh freezeAnswered reliefAnswered econAnswered [] chunk buffer len out sent _ _ h)
+      (econ-fed freezeFresh reliefFresh economizerFresh freezeAnswered reliefAnswered econAnswered [] chunk buffer len before out sent _ _ h)
 
   pub relief-begins : k ≡ kind.Relief → next .phase ≡ phase.Relief
-      → FedAs (feed reliefAnswered (lentState (fresh .integrator) (fresh .blocks) (replicate 512 plusZero) (replicate 512 plusZero)) [] chunk) (lentState (next .integrator) (next .blocks) times integrals) buffer len out sent
-      → FedAs (rowsBegun k chunk) (rowsOf next times integrals) buffer len out sent
+      → FedAs (feed reliefAnswered (lentState (fresh .integrator) (fresh .blocks) (replicate 512 plusZero) (replicate 512 plusZero)) [] chunk) (lentState (next .integrator) (next .blocks) times integrals) buffer len before out sent
+      → FedAs (rowsBegun k chunk) (rowsOf next times integrals) buffer len before out sent
   unfolding readerFeed
   relief-begins e d h =
-      fed-is _ _ _ _ buffer len out sent
+      fed-is _ _ _ _ buffer len before out sent
       (ap (λ (s : ReliefState). rowsFeed (Relief s) [] chunk)
       (ap (λ (x : RowReader). lentState (x .integrator) (x .blocks) (replicate 512 plusZero) (replicate 512 plusZero)) f ∙ fresh-relief p)
       ∙ ap (λ (x : Kind). rowsBegun x chunk) (sym e))
       (sym (at-phase next times integrals phase.Relief d))
-      (relief-fed freezeFresh reliefFresh economizerFresh freezeAnswered reliefAnswered econAnswered [] chunk buffer len out sent _ _ h)
+      (relief-fed freezeFresh reliefFresh economizerFresh freezeAnswered reliefAnswered econAnswered [] chunk buffer len before out sent _ _ h)
 
 -- after a first line that names no kind
 pub none-begins : (next : RowReader) (times integrals : List Float) (chunk buffer out out′ : List ℕ) (sent : ℕ) (k : Kind) → k ≡ kind.Unknown
     → next ≡ freshAt phase.Stopped → Wrote out 0 (statusLine 6) 22 out′ sent → 22 ≤ length out → length out′ ≡ length out
-    → FedAs (rowsBegun k chunk) (rowsOf next times integrals) buffer 0 out′ sent
+    → FedAs (rowsBegun k chunk) (rowsOf next times integrals) buffer 0 out out′ sent
 none-begins next times integrals chunk buffer out out′ sent k e d w r l =
     let n : sent ≡ 0 + length (statusLine 6) = omega (arith, w .place, w .long) in
-    fed-is _ _ _ _ buffer 0 out′ sent
+    fed-is _ _ _ _ buffer 0 out out′ sent
     (sym (stopped-begun freezeFresh reliefFresh economizerFresh freezeAnswered reliefAnswered econAnswered chunk) ∙ ap (λ (x : Kind). rowsBegun x chunk) (sym e))
     (sym (fresh-rows next phase.Stopped times integrals d))
     (record {
@@ -173,6 +173,11 @@ none-begins next times integrals chunk buffer out out′ sent k e d w r l =
           ∙ ap (λ (n : ℕ). take n (over out 0 (statusLine 6))) n
           ∙ take-over out 0 (statusLine 6) (omega (arith, w .long));
       said-fits = omega (arith, w .place);
+      rest =
+          ap (λ (x : List ℕ). drop sent x) (w .bytes)
+          ∙ ap (λ (n : ℕ). drop n (over out 0 (statusLine 6))) n
+          ∙ drop-over out 0 (statusLine 6) (omega (arith, w .long))
+          ∙ sym (ap (λ (n : ℕ). drop n out) n);
     })
 
 -- ---- the end of the input

@@ -48,7 +48,7 @@ pub fn freeze_chunk(
     had: usize,
 ) -> Fed
     requires { ⌜ (length (now line) ≡ 256) × (had ≤ 256) × (22 * (256 + length (now chunk)) ≤ length (now out)) ⌝ }
-    ensures { λ r. ⌜ (r .reader .phase ≡ phase.Freeze) × FedAs (feed freezeAnswered (reader .freeze) (take had (now (line .entry))) (now (chunk .entry))) (r .reader .freeze) (now (line .exit)) (r .len) (now (out .exit)) (r .sent) ⌝ }
+    ensures { λ r. ⌜ (r .reader .phase ≡ phase.Freeze) × FedAs (feed freezeAnswered (reader .freeze) (take had (now (line .entry))) (now (chunk .entry))) (r .reader .freeze) (now (line .exit)) (r .len) (now (out .entry)) (now (out .exit)) (r .sent) ⌝ }
 {
     let start = reader.freeze;
     let fed = feed_freeze(chunk, line, out, start, had);
@@ -78,7 +78,7 @@ pub fn econ_chunk(
     had: usize,
 ) -> Fed
     requires { ⌜ (length (now line) ≡ 256) × (had ≤ 256) × (22 * (256 + length (now chunk)) ≤ length (now out)) ⌝ }
-    ensures { λ r. ⌜ (r .reader .phase ≡ phase.Econ) × FedAs (feed econAnswered (reader .econ) (take had (now (line .entry))) (now (chunk .entry))) (r .reader .econ) (now (line .exit)) (r .len) (now (out .exit)) (r .sent) ⌝ }
+    ensures { λ r. ⌜ (r .reader .phase ≡ phase.Econ) × FedAs (feed econAnswered (reader .econ) (take had (now (line .entry))) (now (chunk .entry))) (r .reader .econ) (now (line .exit)) (r .len) (now (out .entry)) (now (out .exit)) (r .sent) ⌝ }
 {
     let start = reader.econ;
     let fed = feed_econ(chunk, line, out, start, had);
@@ -110,7 +110,7 @@ pub fn relief_chunk(
     had: usize,
 ) -> Fed
     requires { ⌜ (length (now line) ≡ 256) × (had ≤ 256) × (22 * (256 + length (now chunk)) ≤ length (now out)) × (length (now times) ≡ 512) × (length (now integrals) ≡ 512) ⌝ }
-    ensures { λ r. ⌜ (length (now (times .exit)) ≡ 512) × (length (now (integrals .exit)) ≡ 512) × (r .reader .phase ≡ phase.Relief) × FedAs (feed reliefAnswered (lentState (reader .integrator) (reader .blocks) (now (times .entry)) (now (integrals .entry))) (take had (now (line .entry))) (now (chunk .entry))) (lentState (r .reader .integrator) (r .reader .blocks) (now (times .exit)) (now (integrals .exit))) (now (line .exit)) (r .len) (now (out .exit)) (r .sent) ⌝ }
+    ensures { λ r. ⌜ (length (now (times .exit)) ≡ 512) × (length (now (integrals .exit)) ≡ 512) × (r .reader .phase ≡ phase.Relief) × FedAs (feed reliefAnswered (lentState (reader .integrator) (reader .blocks) (now (times .entry)) (now (integrals .entry))) (take had (now (line .entry))) (now (chunk .entry))) (lentState (r .reader .integrator) (r .reader .blocks) (now (times .exit)) (now (integrals .exit))) (now (line .exit)) (r .len) (now (out .entry)) (now (out .exit)) (r .sent) ⌝ }
 {
     let integrator = reader.integrator;
     let blocks = reader.blocks;

@@ -29,7 +29,7 @@ fn begin_chunk(
     integrals: &mut [f64; 512],
 ) -> Fed
     requires { ⌜ (length (now line) ≡ 256) × (22 * (256 + length (now chunk)) ≤ length (now out)) × (length (now times) ≡ 512) × (length (now integrals) ≡ 512) ⌝ }
-    ensures { λ r. ⌜ (length (now (times .exit)) ≡ 512) × (length (now (integrals .exit)) ≡ 512) × FedAs (rowsBegun kind (now (chunk .entry))) (rowsOf (r .reader) (now (times .exit)) (now (integrals .exit))) (now (line .exit)) (r .len) (now (out .exit)) (r .sent) ⌝ }
+    ensures { λ r. ⌜ (length (now (times .exit)) ≡ 512) × (length (now (integrals .exit)) ≡ 512) × FedAs (rowsBegun kind (now (chunk .entry))) (rowsOf (r .reader) (now (times .exit)) (now (integrals .exit))) (now (line .exit)) (r .len) (now (out .entry)) (now (out .exit)) (r .sent) ⌝ }
 {
     let reader = fresh_at(Phase::First);
     match kind {
@@ -62,7 +62,7 @@ fn first_chunk(
     had: usize,
 ) -> Fed
     requires { ⌜ (length (now line) ≡ 256) × (had ≤ 256) × (22 * (256 + length (now chunk)) ≤ length (now out)) × (length (now times) ≡ 512) × (length (now integrals) ≡ 512) ⌝ }
-    ensures { λ r. ⌜ (length (now (times .exit)) ≡ 512) × (length (now (integrals .exit)) ≡ 512) × FedAs (rowsFeed First (take had (now (line .entry))) (now (chunk .entry))) (rowsOf (r .reader) (now (times .exit)) (now (integrals .exit))) (now (line .exit)) (r .len) (now (out .exit)) (r .sent) ⌝ }
+    ensures { λ r. ⌜ (length (now (times .exit)) ≡ 512) × (length (now (integrals .exit)) ≡ 512) × FedAs (rowsFeed First (take had (now (line .entry))) (now (chunk .entry))) (rowsOf (r .reader) (now (times .exit)) (now (integrals .exit))) (now (line .exit)) (r .len) (now (out .entry)) (now (out .exit)) (r .sent) ⌝ }
 {
     let j = line_end(chunk, 0);
     let len = keep(line, had, &chunk[..j]);
@@ -89,7 +89,7 @@ pub fn feed(
     had: usize,
 ) -> Fed
     requires { ⌜ (length (now line) ≡ 256) × (had ≤ 256) × (22 * (256 + length (now chunk)) ≤ length (now out)) × (length (now times) ≡ 512) × (length (now integrals) ≡ 512) ⌝ }
-    ensures { λ r. ⌜ (length (now (times .exit)) ≡ 512) × (length (now (integrals .exit)) ≡ 512) × FedAs (rowsFeed (rowsOf reader (now (times .entry)) (now (integrals .entry))) (take had (now (line .entry))) (now (chunk .entry))) (rowsOf (r .reader) (now (times .exit)) (now (integrals .exit))) (now (line .exit)) (r .len) (now (out .exit)) (r .sent) ⌝ }
+    ensures { λ r. ⌜ (length (now (times .exit)) ≡ 512) × (length (now (integrals .exit)) ≡ 512) × FedAs (rowsFeed (rowsOf reader (now (times .entry)) (now (integrals .entry))) (take had (now (line .entry))) (now (chunk .entry))) (rowsOf (r .reader) (now (times .exit)) (now (integrals .exit))) (now (line .exit)) (r .len) (now (out .entry)) (now (out .exit)) (r .sent) ⌝ }
 {
     let phase = reader.phase;
     match phase {

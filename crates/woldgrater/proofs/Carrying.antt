@@ -25,9 +25,9 @@ kept-whole kept h = record {
 }
 
 -- what a chunk leaves, after the bytes that a caller says were kept
-pub kept-fed : (kept had : ℕ) → KeptOf kept had → (line : List ℕ) → length line ≡ 256 → (q : Rows) (chunk : List ℕ) (next : Rows) (line′ : List ℕ) (len : ℕ) (out : List ℕ) (sent : ℕ)
-    → FedAs (rowsFeed q (take had line) chunk) next line′ len out sent → FedAs (rowsFeed q (take kept line) chunk) next line′ len out sent
-kept-fed kept had k line n q chunk next line′ len out sent f = subst (λ (p : List ℕ). FedAs (rowsFeed q p chunk) next line′ len out sent) (k .same line n) f
+pub kept-fed : (kept had : ℕ) → KeptOf kept had → (line : List ℕ) → length line ≡ 256 → (q : Rows) (chunk : List ℕ) (next : Rows) (line′ : List ℕ) (len : ℕ) (before out : List ℕ) (sent : ℕ)
+    → FedAs (rowsFeed q (take had line) chunk) next line′ len before out sent → FedAs (rowsFeed q (take kept line) chunk) next line′ len before out sent
+kept-fed kept had k line n q chunk next line′ len before out sent f = subst (λ (p : List ℕ). FedAs (rowsFeed q p chunk) next line′ len before out sent) (k .same line n) f
 
 -- what the end leaves, after them
 pub kept-ended : (kept had : ℕ) → KeptOf kept had → (line : List ℕ) → length line ≡ 256 → (reader : RowReader) (out after : List ℕ) (r : ℕ)
@@ -36,11 +36,11 @@ kept-ended kept had k line n reader out after r f = subst (λ (p : List ℕ). Fi
 
 module _ (state : State) (reader : RowReader) (e : reader ≡ readerOf (state .reader)) (line : List ℕ) where
   -- a chunk fed to the reader that the state stands for, and the next reader as words
-  pub fed-to : (times integrals times′ integrals′ : List Float) (chunk line′ out′ : List ℕ) (sent : ℕ) (next : RowReader) (state′ : State)
+  pub fed-to : (times integrals times′ integrals′ : List Float) (chunk line′ out out′ : List ℕ) (sent : ℕ) (next : RowReader) (state′ : State)
       → state′ .reader ≡ readerWords next
-      → FedAs (rowsFeed (rowsOf reader times integrals) (partIn state line) chunk) (rowsOf next times′ integrals′) line′ (state′ .kept) out′ sent
-      → FedTo (memory state line times integrals) chunk (memory state′ line′ times′ integrals′) out′ sent
-  fed-to times integrals times′ integrals′ chunk line′ out′ sent next state′ w f =
+      → FedAs (rowsFeed (rowsOf reader times integrals) (partIn state line) chunk) (rowsOf next times′ integrals′) line′ (state′ .kept) out out′ sent
+      → FedTo (memory state line times integrals) chunk out (memory state′ line′ times′ integrals′) out′ sent
+  fed-to times integrals times′ integrals′ chunk line′ out out′ sent next state′ w f =
       let same : rowsFeed (rowsOf reader times integrals) (partIn state line) chunk ≡ rowsFeed (rowsIn (memory state line times integrals)) (partIn state line) chunk = λ i. rowsFeed (rowsOf (e i) times integrals) (partIn state line) chunk in
       record {
         state = ap (λ (x : RowReader). rowsOf x times′ integrals′) (ap readerOf w ∙ reader-back next) ∙ f .state ∙ ap (λ (x : Fed Rows). x .next) same;
@@ -48,6 +48,7 @@ module _ (state : State) (reader : RowReader) (e : reader ≡ readerOf (state .r
         part-fits = f .part-fits;
         said = f .said ∙ ap (λ (x : Fed Rows). x .said) same;
         said-fits = f .said-fits;
+        rest = f .rest;
       }
 
   -- the end of the input, said of that reader

@@ -24,10 +24,10 @@ unfolding readerChunks readerWritten
 one-chunk rows = rows-any-cutting (rows ∷ [])
 
 -- what a fresh reader says of a whole row file
-pub whole-said : (reader : RowReader) → reader ≡ freshAt phase.First → (times integrals : List Float) (rows : List ℕ) (q : Rows) (line : List ℕ) (len : ℕ) (out : List ℕ) (sent : ℕ)
-    → FedAs (rowsFeed (rowsOf reader times integrals) [] rows) q line len out sent
+pub whole-said : (reader : RowReader) → reader ≡ freshAt phase.First → (times integrals : List Float) (rows : List ℕ) (q : Rows) (line : List ℕ) (len : ℕ) (before out : List ℕ) (sent : ℕ)
+    → FedAs (rowsFeed (rowsOf reader times integrals) [] rows) q line len before out sent
     → take sent out ++ readerEnding q (take len line) ≡ rowsOutput rows
-whole-said reader e times integrals rows q line len out sent h =
+whole-said reader e times integrals rows q line len before out sent h =
     let f = rowsFeed First [] rows in
     let g : rowsFeed (rowsOf reader times integrals) [] rows ≡ f = ap (λ (x : Rows). rowsFeed x [] rows) (fresh-rows reader phase.First times integrals e) in
     ap (λ (x : List ℕ). x ++ readerEnding q (take len line)) (h .said)
@@ -80,12 +80,12 @@ module _ (first more : List ℕ) (sent : ℕ) (fits : sent ≤ length first) whe
 
 -- a row file fed to a fresh reader, and the end after it
 pub played : (reader last : RowReader) → reader ≡ freshAt phase.First → (times integrals times′ integrals′ : List Float) (rows line : List ℕ) (len : ℕ)
-    (first more rest after tail : List ℕ) (sent n : ℕ)
-    → FedAs (rowsFeed (rowsOf reader times integrals) [] rows) (rowsOf last times′ integrals′) line len first sent
+    (before first more rest after tail : List ℕ) (sent n : ℕ)
+    → FedAs (rowsFeed (rowsOf reader times integrals) [] rows) (rowsOf last times′ integrals′) line len before first sent
     → Finished last (take len line) rest after n
     → Played rows (take sent (first ++ more) ++ (after ++ tail)) (sent + n)
-played reader last e times integrals times′ integrals′ rows line len first more rest after tail sent n h w =
-    let s = whole-said reader e times integrals rows (rowsOf last times′ integrals′) line len first sent h in
+played reader last e times integrals times′ integrals′ rows line len before first more rest after tail sent n h w =
+    let s = whole-said reader e times integrals rows (rowsOf last times′ integrals′) line len before first sent h in
     let v = w times′ integrals′ in
     record {
       bytes = both-taken first more rest after tail sent n _ (h .said-fits) v ∙ s;

@@ -39,13 +39,13 @@ pub record KeptOf (kept within : ℕ) : Type 0 where
   pub fits : within ≤ 256
   pub same : (line : List ℕ) → length line ≡ 256 → take within line ≡ take kept line
 
--- what a chunk leaves: the reader, the part of a line, and the answers at the start of the output
-abbrev pub FedTo : Memory → List ℕ → Memory → List ℕ → ℕ → Type 0
-FedTo m chunk next after sent = FedAs (rowsFeed (rowsIn m) (partIn (m .state) (m .line)) chunk) (rowsIn next) (next .line) (next .state .kept) after sent
+-- what a chunk leaves: the reader, the part of a line, and the answers at the start of the output, with every other byte of that as it was
+abbrev pub FedTo : Memory → List ℕ → List ℕ → Memory → List ℕ → ℕ → Type 0
+FedTo m chunk out next after sent = FedAs (rowsFeed (rowsIn m) (partIn (m .state) (m .line)) chunk) (rowsIn next) (next .line) (next .state .kept) out after sent
 
 -- fed where there is room, and else refused, with all as it was
 pub record FedOrRefused (m : Memory) (chunk out : List ℕ) (next : Memory) (after : List ℕ) (sent : ℕ) : Type 0 where
-  pub fed : room (length chunk) ≤ length out → FedTo m chunk next after sent
+  pub fed : room (length chunk) ≤ length out → FedTo m chunk out next after sent
   pub kept : length out < room (length chunk) → (sent ≡ refused) × (next ≡ m) × (after ≡ out)
 
 -- what the end of the input leaves: what is said of it at the start of the output, and every other byte as it was; the window has no say in it
@@ -59,9 +59,10 @@ pub record EndedOrRefused (state : State) (line out after : List ℕ) (r : ℕ) 
 
 -- ---- the calls that a file takes
 
--- a call of `woldgrater_feed` with room: its chunk, and what it left
+-- a call of `woldgrater_feed` with room: its chunk, its output, and what it left
 pub record Call : Type 0 where
   pub chunk : List ℕ
+  pub out : List ℕ
   pub next : Memory
   pub after : List ℕ
   pub sent : ℕ
@@ -69,7 +70,7 @@ pub record Call : Type 0 where
 -- calls one after another, each on the memory that the one before left
 abbrev pub Calls : Memory → List Call → Type 0
 Calls m [] = Unit {0}
-Calls m (c ∷ calls) = FedTo m (c .chunk) (c .next) (c .after) (c .sent) × Calls (c .next) calls
+Calls m (c ∷ calls) = FedTo m (c .chunk) (c .out) (c .next) (c .after) (c .sent) × Calls (c .next) calls
 
 -- the memory that they leave, the bytes that they were fed, and those that they gave to be written
 abbrev pub memoryAfter : Memory → List Call → Memory

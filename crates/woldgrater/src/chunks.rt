@@ -48,7 +48,7 @@ fn feed_chunk(
     state: State,
 ) -> Fed
     requires { ⌜ room (length (now chunk)) ≤ length (now out) ⌝ }
-    ensures { λ r. ⌜ FedTo (memory state (now (line .entry)) (now (times .entry)) (now (integrals .entry))) (now (chunk .entry)) (memory (r .state) (now (line .exit)) (now (times .exit)) (now (integrals .exit))) (now (out .exit)) (r .sent) ⌝ }
+    ensures { λ r. ⌜ FedTo (memory state (now (line .entry)) (now (times .entry)) (now (integrals .entry))) (now (chunk .entry)) (now (out .entry)) (memory (r .state) (now (line .exit)) (now (times .exit)) (now (integrals .exit))) (now (out .exit)) (r .sent) ⌝ }
 {
     let words = state.reader;
     let reader = words.state();

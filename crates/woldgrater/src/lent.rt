@@ -35,7 +35,7 @@ pub fn feed_lent(
     kept: usize,
 ) -> Fed
     requires { ⌜ room (length (now chunk)) ≤ length (now out) ⌝ }
-    ensures { λ r. ⌜ FedAs (rowsFeed (rowsOf reader (now (times .entry)) (now (integrals .entry))) (take kept (now (line .entry))) (now (chunk .entry))) (rowsOf (r .reader) (now (times .exit)) (now (integrals .exit))) (now (line .exit)) (r .len) (now (out .exit)) (r .sent) ⌝ }
+    ensures { λ r. ⌜ FedAs (rowsFeed (rowsOf reader (now (times .entry)) (now (integrals .entry))) (take kept (now (line .entry))) (now (chunk .entry))) (rowsOf (r .reader) (now (times .exit)) (now (integrals .exit))) (now (line .exit)) (r .len) (now (out .entry)) (now (out .exit)) (r .sent) ⌝ }
 {
     let had = kept_of(kept);
     lend(times);

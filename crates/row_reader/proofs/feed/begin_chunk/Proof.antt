@@ -44,7 +44,7 @@ same-length-2 c = search needs
 returns : tie.Need-returns
 returns c =
     let f = c .before .before .before .before .freeze-chunk .ensures in
-    (c .before .before .before .before .before .before .before .before .before .before .before .before .before .pre .2, c .before .before .before .before .before .before .before .before .before .before .before .before .before .pre .3, freeze-begins _ _ _ _ _ _ _ _ _ _ _ (c .before .before .before .before .before .before .before .before .before .fresh-at .ensures) (c .before .before .before .before .before .before .before .enum-told .given .1) (f .0) (f .1))
+    (c .before .before .before .before .before .before .before .before .before .before .before .before .before .pre .2, c .before .before .before .before .before .before .before .before .before .before .before .before .before .pre .3, freeze-begins _ _ _ _ _ _ _ _ _ _ _ _ (c .before .before .before .before .before .before .before .before .before .fresh-at .ensures) (c .before .before .before .before .before .before .before .enum-told .given .1) (f .0) (f .1))
 
 same-length-3 : tie.Need-same-length-3
 same-length-3 c = search needs
@@ -55,7 +55,7 @@ same-length-4 c = search needs
 returns-2 : tie.Need-returns-2
 returns-2 c =
     let f = c .before .before .before .before .relief-chunk .ensures in
-    (f .0, f .1, relief-begins _ _ _ _ _ _ _ _ _ _ _ (c .before .before .before .before .before .before .before .before .before .before .before .before .before .fresh-at .ensures) (c .before .before .before .before .before .before .before .before .before .before .before .enum-told2 .given .1) (f .2) (f .3))
+    (f .0, f .1, relief-begins _ _ _ _ _ _ _ _ _ _ _ _ (c .before .before .before .before .before .before .before .before .before .before .before .before .before .fresh-at .ensures) (c .before .before .before .before .before .before .before .before .before .before .before .enum-told2 .given .1) (f .2) (f .3))
 
 same-length-5 : tie.Need-same-length-5
 same-length-5 c = search needs
@@ -66,7 +66,7 @@ same-length-6 c = search needs
 returns-3 : tie.Need-returns-3
 returns-3 c =
     let f = c .before .before .before .before .econ-chunk .ensures in
-    (c .before .before .before .before .before .before .before .before .before .before .before .before .before .pre .2, c .before .before .before .before .before .before .before .before .before .before .before .before .before .pre .3, econ-begins _ _ _ _ _ _ _ _ _ _ _ (c .before .before .before .before .before .before .before .before .before .fresh-at .ensures) (c .before .before .before .before .before .before .before .enum-told3 .given .1) (f .0) (f .1))
+    (c .before .before .before .before .before .before .before .before .before .before .before .before .before .pre .2, c .before .before .before .before .before .before .before .before .before .before .before .before .before .pre .3, econ-begins _ _ _ _ _ _ _ _ _ _ _ _ (c .before .before .before .before .before .before .before .before .before .fresh-at .ensures) (c .before .before .before .before .before .before .before .enum-told3 .given .1) (f .0) (f .1))
 
 same-length-7 : tie.Need-same-length-7
 same-length-7 c = search needs

@@ -40,7 +40,7 @@ same-length-2 c = search needs
 returns : tie.Need-returns
 returns c =
     let f = c .before .before .before .before .first-chunk .ensures in
-    (f .0, f .1, first-goes-on _ _ _ (c .before .before .before .before .before .before .before .before .before .enum-told .given .1) _ _ _ _ _ _ _ (f .2))
+    (f .0, f .1, first-goes-on _ _ _ (c .before .before .before .before .before .before .before .before .before .enum-told .given .1) _ _ _ _ _ _ _ _ (f .2))
 
 same-length-3 : tie.Need-same-length-3
 same-length-3 c = search needs
@@ -51,7 +51,7 @@ same-length-4 c = search needs
 returns-2 : tie.Need-returns-2
 returns-2 c =
     let f = c .before .before .before .before .freeze-chunk .ensures in
-    (c .before .before .before .before .before .before .before .before .before .before .before .before .pre .3, c .before .before .before .before .before .before .before .before .before .before .before .before .pre .4, freeze-goes-on _ _ _ _ _ _ _ _ _ _ _ _ (c .before .before .before .before .before .before .before .enum-told2 .given .1) (f .0) (f .1))
+    (c .before .before .before .before .before .before .before .before .before .before .before .before .pre .3, c .before .before .before .before .before .before .before .before .before .before .before .before .pre .4, freeze-goes-on _ _ _ _ _ _ _ _ _ _ _ _ _ (c .before .before .before .before .before .before .before .enum-told2 .given .1) (f .0) (f .1))
 
 same-length-5 : tie.Need-same-length-5
 same-length-5 c = search needs
@@ -62,7 +62,7 @@ same-length-6 c = search needs
 returns-3 : tie.Need-returns-3
 returns-3 c =
     let f = c .before .before .before .before .relief-chunk .ensures in
-    (f .0, f .1, relief-goes-on _ _ _ _ _ _ _ _ _ _ _ _ (c .before .before .before .before .before .before .before .before .before .enum-told3 .given .1) (f .2) (f .3))
+    (f .0, f .1, relief-goes-on _ _ _ _ _ _ _ _ _ _ _ _ _ (c .before .before .before .before .before .before .before .before .before .enum-told3 .given .1) (f .2) (f .3))
 
 same-length-7 : tie.Need-same-length-7
 same-length-7 c = search needs
@@ -73,7 +73,7 @@ same-length-8 c = search needs
 returns-4 : tie.Need-returns-4
 returns-4 c =
     let f = c .before .before .before .before .econ-chunk .ensures in
-    (c .before .before .before .before .before .before .before .before .before .before .before .before .pre .3, c .before .before .before .before .before .before .before .before .before .before .before .before .pre .4, econ-goes-on _ _ _ _ _ _ _ _ _ _ _ _ (c .before .before .before .before .before .before .before .enum-told4 .given .1) (f .0) (f .1))
+    (c .before .before .before .before .before .before .before .before .before .before .before .before .pre .3, c .before .before .before .before .before .before .before .before .before .before .before .before .pre .4, econ-goes-on _ _ _ _ _ _ _ _ _ _ _ _ _ (c .before .before .before .before .before .before .before .enum-told4 .given .1) (f .0) (f .1))
 
 returns-5 : tie.Need-returns-5
 returns-5 c = (c .before .before .before .before .before .pre .3, c .before .before .before .before .before .pre .4, stays-stopped _ _ _ _ _ _ _ (c .enum-told5 .given .1))

@@ -20,7 +20,7 @@ returns : tie.Need-returns
 returns c =
     let f = c .before .before .before .before in
     let r = f .before .before .before .before .before in
-    fed-to (r .before .before .before .before .args .state) _ (r .state .ensures) _ _ _ _ _ _ _ _ _ _ _ (c .of .ensures) (f .feed-lent .ensures)
+    fed-to (r .before .before .before .before .args .state) _ (r .state .ensures) _ _ _ _ _ _ _ _ _ _ _ _ (c .of .ensures) (f .feed-lent .ensures)
 
 pub feed-chunk-spec : {M : Type 1} → statement M
 feed-chunk-spec = tie.close (tie.spec state-requires feed-lent-requires of-requires same-length returns)

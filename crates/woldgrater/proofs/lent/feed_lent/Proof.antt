@@ -32,7 +32,7 @@ returns : tie.Need-returns
 returns c =
     let a = c .before .before .before .before .before .before in
     let k = a .before .before .before .before .before .before .before in
-    kept-fed _ _ (k .kept-of .ensures) (k .before .before .before .args .line .now) (line-long a) _ _ _ _ _ _ _ (c .before .before .feed .ensures .2)
+    kept-fed _ _ (k .kept-of .ensures) (k .before .before .before .args .line .now) (line-long a) _ _ _ _ _ _ _ _ (c .before .before .feed .ensures .2)
 
 pub feed-lent-spec : {M : Type 1} → statement M
 feed-lent-spec = tie.close (tie.spec kept-of-requires lend-requires lend-requires-2 feed-requires same-length returns)

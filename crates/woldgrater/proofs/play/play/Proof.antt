@@ -80,7 +80,7 @@ returns c =
     let at-finish = c .before .before in
     let at-feed = at-finish .before .before .before .before .before .before .before in
     let at-fresh = at-feed .before .before .before .before .before in
-    played (at-fresh .fresh-at .result) (at-feed .feed .result .reader) (at-fresh .fresh-at .ensures) _ _ _ _ _ _ _ _ _ _ _ _ _ _ (at-feed .feed .ensures .2) (at-finish .finish .ensures .0)
+    played (at-fresh .fresh-at .result) (at-feed .feed .result .reader) (at-fresh .fresh-at .ensures) _ _ _ _ _ _ _ _ _ _ _ _ _ _ _ (at-feed .feed .ensures .2) (at-finish .finish .ensures .0)
 
 pub play-spec : {M : Type 1} → statement M
 play-spec =
