@@ -38,7 +38,7 @@ extern "C" {
  * answered by a line, its status and, where it is accepted, its commands. docs/ROW_FILES.md has columns and statuses.
  *
  * Where out_len is at least WOLDGRATER_ROOM(rows_len): gives the length of the output, and the output stands in the first bytes
- * of out. (The program `rows` prints the same bytes, which is tested.) What stands in the bytes after it is left open.
+ * of out. (The program `rows` prints the same bytes, which is tested.) The bytes after it are as they were.
  * Else: gives WOLDGRATER_REFUSED, and out is as it was. */
 size_t woldgrater_play(const uint8_t *rows, size_t rows_len, uint8_t *out, size_t out_len);
 
@@ -68,8 +68,7 @@ struct woldgrater_state woldgrater_start(void);
 /* Feeds the next chunk.
  *
  * Where out_len is at least WOLDGRATER_ROOM(chunk_len): gives the next state, and in sent the number of bytes to be written, which
- * stand in the first bytes of out: the answers to the lines that end in this chunk. What stands in the bytes after them is left
- * open.
+ * stand in the first bytes of out: the answers to the lines that end in this chunk. The bytes after them are as they were.
  * Else: gives the state as it was and WOLDGRATER_REFUSED in sent, and nothing that is lent is written. */
 struct woldgrater_fed woldgrater_feed(const uint8_t *chunk, size_t chunk_len, uint8_t *out, size_t out_len,
                                       uint8_t line[WOLDGRATER_LINE], double times[WOLDGRATER_WINDOW],

@@ -28,6 +28,12 @@ static void expect(const char *what, int held)
     }
 }
 
+/* Nothing was written to the output after the answers. */
+static int rest_untouched(void)
+{
+    return memcmp(lent.out + ANSWERS, before.out + ANSWERS, sizeof lent.out - ANSWERS) == 0;
+}
+
 /* Nothing was written. */
 static int untouched(void)
 {
@@ -46,6 +52,7 @@ static void try_play(void)
     expect("play: room for no byte of rows is refused", woldgrater_play(rows, LEN, lent.out, WOLDGRATER_ROOM(0)) == WOLDGRATER_REFUSED && untouched());
     expect("play: the room asked is enough", woldgrater_play(rows, LEN, lent.out, sizeof lent.out) == ANSWERS);
     expect("play: two empty lines are refused with 5", memcmp(lent.out, answers, ANSWERS) == 0);
+    expect("play: the bytes after the answers are as they were", rest_untouched());
 }
 
 static void try_feed(void)
@@ -61,6 +68,7 @@ static void try_feed(void)
     fed = feed(sizeof lent.out, state);
     expect("feed: the room asked is enough", fed.sent == ANSWERS);
     expect("feed: two empty lines are refused with 5", memcmp(lent.out, answers, ANSWERS) == 0);
+    expect("feed: the bytes after the answers are as they were", rest_untouched());
     expect("feed: another kind's arrays are as they were", memcmp(lent.times, before.times, sizeof lent.times) == 0 && memcmp(lent.integrals, before.integrals, sizeof lent.integrals) == 0);
 }
 

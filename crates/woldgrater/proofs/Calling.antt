@@ -17,7 +17,7 @@ use Rattle.row_reader.proofs.RowFeeding.{fresh-rows, rows-any-cutting}
 use Rattle.state_words.specs.Reader.{readerOf}
 use Rattle.state_words.proofs.StatesBack.{reader-back}
 use Rattle.woldgrater.specs.declared.chunks.State.{State}
-use Rattle.woldgrater.proofs.Playing.{wrote-says}
+use Rattle.woldgrater.proofs.Playing.{wrote-taken}
 use Rattle.woldgrater.specs.Chunks.{Memory, started, rowsIn, partIn, Call, Calls, memoryAfter, fedBy, sentBy, EndedBy}
 
 -- chunk after chunk, as `rowsWritten` goes
@@ -53,6 +53,6 @@ file-fed m e calls h out after r w =
     let last = memoryAfter m calls in
     let f = chunks First [] (fedBy calls) in
     let is : called m calls ≡ f = sym (calls-are-chunks m calls h) ∙ (λ i. chunks (started-first m e i) (started-part m e i) (fedBy calls)) in
-    ap (λ (x : List ℕ). sentBy calls ++ x) (wrote-says out after _ r (w (last .times) (last .integrals)) .bytes)
+    ap (λ (x : List ℕ). sentBy calls ++ x) (wrote-taken out after _ r (w (last .times) (last .integrals)))
     ∙ ap (λ (x : Fed Rows). x .said ++ readerEnding (x .next) (x .part)) is
     ∙ rows-any-cutting (fedBy calls)

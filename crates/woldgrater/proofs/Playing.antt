@@ -8,7 +8,7 @@ use native.Mathlib.Omega.{arith}
 use lib.ListN.{length, take, drop, length-append, length-drop}
 use lib.Dec.{leb}
 use lib.Ieee.{Float}
-use lib.Seq.{length-take-le, take-append-le, take-append-add, take-at}
+use lib.Seq.{length-take-le, take-append-le, drop-append-le, drop-drop, take-at}
 use borrow.Author.Tests.{leb-true, leb-false}
 use Rattle.row_lines.specs.Column.{Wrote}
 use Rattle.lines.specs.Lines.{Fed, FedAs, cut}
@@ -17,7 +17,7 @@ use Rattle.row_reader.specs.declared.types.RowReader.{RowReader}
 use Rattle.row_reader.specs.Reader.{First, readerEnding, readerChunks, readerWritten}
 use Rattle.row_reader.specs.Rows.{Rows, rowsOf, rowsFeed, rowsOutput, freshAt, Finished}
 use Rattle.row_reader.proofs.RowFeeding.{fresh-rows, rows-any-cutting}
-use Rattle.woldgrater.specs.Play.{room, Says, Played}
+use Rattle.woldgrater.specs.Play.{room, Played}
 
 one-chunk : (rows : List ℕ) → (rowsFeed First [] rows .said ++ []) ++ readerEnding (rowsFeed First [] rows .next) (cut (rowsFeed First [] rows .part)) ≡ rowsOutput (rows ++ [])
 unfolding readerChunks readerWritten
@@ -38,35 +38,9 @@ whole-said reader e times integrals rows q line len before out sent h =
     ∙ one-chunk rows
     ∙ ap rowsOutput (append-nil rows)
 
--- a text at the start of a part, with anything after it
-text-taken : (rest after tail : List ℕ) (e : List ℕ) (n : ℕ) → Wrote rest 0 e n after n → take n (after ++ tail) ≡ e
-text-taken rest after tail e n w =
-    ap (λ (x : List ℕ). take n (x ++ tail)) (w .bytes)
-    ∙ ap (λ (x : List ℕ). take n x) (append-assoc e (drop (0 + length e) rest) tail)
-    ∙ take-at e (drop (0 + length e) rest ++ tail) n (w .long)
-
--- and with nothing after it
-pub wrote-says : (rest after : List ℕ) (e : List ℕ) (n : ℕ) → Wrote rest 0 e n after n → Says e after n
-wrote-says rest after e n w = record {
-  bytes = ap (λ (x : List ℕ). take n x) (sym (append-nil after)) ∙ text-taken rest after [] e n w;
-  long = sym (w .long);
-}
-
--- the bytes said of the rows, and those said of the end in the part after them
-module _ (first more rest after tail : List ℕ) (sent n : ℕ) (e : List ℕ) (fits : sent ≤ length first) (w : Wrote rest 0 e n after n) where
-  start : take sent (first ++ more) ≡ take sent first
-  start = take-append-le sent first more fits
-
-  both-taken : take (sent + n) (take sent (first ++ more) ++ (after ++ tail)) ≡ take sent first ++ e
-  both-taken =
-      ap (λ (x : List ℕ). take (sent + n) (x ++ (after ++ tail))) start
-      ∙ ap (λ (x : ℕ). take (x + n) (take sent first ++ (after ++ tail))) (sym (length-take-le sent first fits))
-      ∙ take-append-add (take sent first) (after ++ tail) n
-      ∙ ap (λ (x : List ℕ). take sent first ++ x) (text-taken rest after tail e n w)
-
-  both-long : sent + n ≡ length (take sent first ++ e)
-  both-long =
-      sym (length-append (take sent first) e ∙ ap (λ (x : ℕ). x + length e) (length-take-le sent first fits) ∙ ap (λ (x : ℕ). sent + x) (w .long))
+-- a text written at the start of a buffer stands there
+pub wrote-taken : (rest after : List ℕ) (e : List ℕ) (n : ℕ) → Wrote rest 0 e n after n → take n after ≡ e
+wrote-taken rest after e n w = ap (λ (x : List ℕ). take n x) (w .bytes) ∙ take-at e (drop (0 + length e) rest) n (w .long)
 
 -- the part that what was said leaves: its start, and room for the end
 module _ (first more : List ℕ) (sent : ℕ) (fits : sent ≤ length first) where
@@ -78,18 +52,37 @@ module _ (first more : List ℕ) (sent : ℕ) (fits : sent ≤ length first) whe
       let n = length (first ++ more) - sent in
       omega (arith, fits, h, length-append first more, length-take-le n (drop sent (first ++ more)) (le-of-eq (sym (length-drop sent (first ++ more)))))
 
--- a row file fed to a fresh reader, and the end after it
+-- a row file fed to a fresh reader, and the end after it in the part of the output that is left
 pub played : (reader last : RowReader) → reader ≡ freshAt phase.First → (times integrals times′ integrals′ : List Float) (rows line : List ℕ) (len : ℕ)
-    (before first more rest after tail : List ℕ) (sent n : ℕ)
+    (out before first more rest after tail : List ℕ) (sent n : ℕ) → before ++ more ≡ out
     → FedAs (rowsFeed (rowsOf reader times integrals) [] rows) (rowsOf last times′ integrals′) line len before first sent
+    → length first ≡ length before → rest ++ tail ≡ drop sent (first ++ more) → n ≤ length rest
     → Finished last (take len line) rest after n
-    → Played rows (take sent (first ++ more) ++ (after ++ tail)) (sent + n)
-played reader last e times integrals times′ integrals′ rows line len before first more rest after tail sent n h w =
-    let s = whole-said reader e times integrals rows (rowsOf last times′ integrals′) line len before first sent h in
+    → Played rows out (take sent (first ++ more) ++ (after ++ tail)) (sent + n)
+played reader last e times integrals times′ integrals′ rows line len out before first more rest after tail sent n split h same left fits w =
     let v = w times′ integrals′ in
+    let said : List ℕ = readerEnding (rowsOf last times′ integrals′) (take len line) in
+    let s : take sent first ++ said ≡ rowsOutput rows = whole-said reader e times integrals rows (rowsOf last times′ integrals′) line len before first sent h in
+    let long : sent + n ≡ length (rowsOutput rows) =
+    sym (ap length (sym s) ∙ length-append (take sent first) said ∙ ap (λ (x : ℕ). x + length said) (length-take-le sent first (h .said-fits)) ∙ ap (λ (x : ℕ). sent + x) (v .long)) in
+    let end : sent + (0 + length said) ≡ 0 + length (rowsOutput rows) = omega (arith, v .long, long) in
+    let untouched : drop sent (first ++ more) ≡ drop sent out =
+    drop-append-le sent first more (h .said-fits) ∙ ap (λ (x : List ℕ). x ++ more) (h .rest) ∙ sym (drop-append-le sent before more (omega (arith, h .said-fits))) ∙ ap (λ (x : List ℕ). drop sent x) split in
+    let beyond : drop (0 + length said) rest ++ tail ≡ drop (0 + length (rowsOutput rows)) out =
+    sym (drop-append-le (0 + length said) rest tail (omega (arith, v .long)))
+    ∙ ap (λ (x : List ℕ). drop (0 + length said) x) (left ∙ untouched)
+    ∙ drop-drop (0 + length said) sent out
+    ∙ ap (λ (x : ℕ). drop x out) end in
     record {
-      bytes = both-taken first more rest after tail sent n _ (h .said-fits) v ∙ s;
-      long = both-long first more rest after tail sent n _ (h .said-fits) v ∙ ap length s;
+      bytes =
+          ap (λ (x : List ℕ). x ++ (after ++ tail)) (take-append-le sent first more (h .said-fits))
+          ∙ ap (λ (x : List ℕ). take sent first ++ (x ++ tail)) (v .bytes)
+          ∙ ap (λ (x : List ℕ). take sent first ++ x) (append-assoc said (drop (0 + length said) rest) tail)
+          ∙ sym (append-assoc (take sent first) said (drop (0 + length said) rest ++ tail))
+          ∙ ap (λ (x : List ℕ). x ++ (drop (0 + length said) rest ++ tail)) s
+          ∙ ap (λ (x : List ℕ). rowsOutput rows ++ x) beyond;
+      long = sym long;
+      place = omega arith;
     }
 
 -- ---- what the test of the room tells

@@ -2,7 +2,8 @@
 use Prim.Native.Nat.{ℕ, _+_, _*_, _-_, _^_, _≤_, _<_}
 use mathlib.Core.Path.{_≡_}
 use mathlib.Core.List.{List}
-use lib.ListN.{length, take}
+use lib.ListN.{length}
+use Rattle.row_lines.specs.Column.{Wrote}
 use Rattle.row_reader.specs.Rows.{rowsOutput}
 
 -- the bytes of a status line
@@ -17,16 +18,11 @@ room n = statusLength * (257 + n)
 abbrev pub refused : ℕ
 refused = 2 ^ 64 - 1
 
--- the first r bytes of the output are a text
-pub record Says (text after : List ℕ) (r : ℕ) : Type 0 where
-  pub bytes : take r after ≡ text
-  pub long : r ≡ length text
-
--- they are those of the row file
-abbrev pub Played : List ℕ → List ℕ → ℕ → Type 0
-Played rows after r = Says (rowsOutput rows) after r
+-- what a row file leaves: its output in the first r bytes, and every other byte as it was
+abbrev pub Played : List ℕ → List ℕ → List ℕ → ℕ → Type 0
+Played rows out after r = Wrote out 0 (rowsOutput rows) r after r
 
 -- played where there is room, and else refused, with the output as it was
 pub record PlayedOrRefused (rows out after : List ℕ) (r : ℕ) : Type 0 where
-  pub played : room (length rows) ≤ length out → Played rows after r
+  pub played : room (length rows) ≤ length out → Played rows out after r
   pub kept : length out < room (length rows) → (r ≡ refused) × (after ≡ out)

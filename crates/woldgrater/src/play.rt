@@ -12,7 +12,7 @@ use row_reader::types::Phase;
 // A whole row file, from a fresh start, into an output with room for it.
 fn play(rows: &[u8], out: &mut [u8]) -> usize
     requires { ⌜ room (length (now rows)) ≤ length (now out) ⌝ }
-    ensures { λ r. ⌜ Played (now (rows .entry)) (now (out .exit)) r ⌝ }
+    ensures { λ r. ⌜ Played (now (rows .entry)) (now (out .entry)) (now (out .exit)) r ⌝ }
 {
     let mut line = [0u8; 256];
     let mut times = [0.0; 512];

@@ -1,10 +1,10 @@
 -- `play` meets its contract: the row file is one chunk, and the end is said after what was said of it. Assumes nothing.
-use Prim.Native.Nat.{ℕ, _+_, _*_, _≤_}
+use Prim.Native.Nat.{ℕ, _+_, _-_, _*_, _≤_}
 use mathlib.Core.Path.{refl, sym}
 use mathlib.Core.List.{List, _++_}
 use native.Mathlib.Nat.{le-of-eq}
 use native.Mathlib.Omega.{arith}
-use lib.ListN.{length, drop, length-drop}
+use lib.ListN.{length, take, drop, length-drop, take-append-drop}
 use lib.Seq.{length-take-le}
 use borrow.Author.Needs.{needs}
 use Rattle.woldgrater.proofs.Playing.{end-starts, end-fits, played}
@@ -80,7 +80,12 @@ returns c =
     let at-finish = c .before .before in
     let at-feed = at-finish .before .before .before .before .before .before .before in
     let at-fresh = at-feed .before .before .before .before .before in
-    played (at-fresh .fresh-at .result) (at-feed .feed .result .reader) (at-fresh .fresh-at .ensures) _ _ _ _ _ _ _ _ _ _ _ _ _ _ _ (at-feed .feed .ensures .2) (at-finish .finish .ensures .0)
+    let s = at-start at-feed in
+    let first = at-feed .feed .last .1 .1 .0 in
+    let sent = at-feed .feed .result .sent in
+    let X = first ++ beyond at-feed in
+    played (at-fresh .fresh-at .result) (at-feed .feed .result .reader) (at-fresh .fresh-at .ensures) _ _ _ _ _ _ _ _ _ first (beyond at-feed) (take (length X - sent) (drop sent X)) _ _ sent _
+    (take-append-drop (answers s) (s .args .out .now)) (at-feed .feed .ensures .2) (at-feed .feed .kept .1 .1 .0) (take-append-drop (length X - sent) (drop sent X)) (omega (arith, at-finish .finish .ensures .1, end-fits first (beyond at-feed) sent (at-feed .feed .ensures .2 .said-fits) (omega (arith, s .pre, length-drop (answers s) (s .args .out .now))))) (at-finish .finish .ensures .0)
 
 pub play-spec : {M : Type 1} → statement M
 play-spec =
