@@ -1,6 +1,6 @@
 """One field, as a CSV cell and as a column of a row line (document 01, 'Row lines').
 
-The names, forms and order of the fields stand in one table, in compare/comparing.py. A form is
+The names, forms and order of the fields stand in columns.py. A form is
 
     f   a float     cell: a number as in JSON, or nan, inf, -inf       column: its 64-bit pattern
     b   a yes or no cell: 1 or 0                                       column: 1 or 0
@@ -13,21 +13,27 @@ significant digits that read back to the same pattern. Every NaN is `nan`, and `
 """
 
 import math
-import os
 import re
-import sys
+import struct
 
-sys.path.insert(0, os.path.join(os.path.dirname(os.path.abspath(__file__)), '..', '..', 'compare'))
-from comparing import ANSWERS, KINDS, ROWS, WIDTH, bits, number  # noqa: F401: for the other modules
+from tables.columns import WIDTH
 
 NAN = 9221120237041090560
-
-WORDS = {'f': 'float', 'b': 'yes or no', 'i': 'integer'}
 
 NUMBER = re.compile(r'-?(0|[1-9][0-9]*)(\.[0-9]+)?([eE][+-]?[0-9]+)?')
 INTEGER = re.compile(r'0|-?[1-9][0-9]{0,18}')
 COLUMN = re.compile(rb' *(0|-?[1-9][0-9]*)')
 LEAST, GREATEST = -1 << 63, (1 << 63) - 1
+
+
+def bits(value):
+    """The pattern of a float."""
+    return struct.unpack('<Q', struct.pack('<d', value))[0]
+
+
+def number(pattern):
+    """The float of a pattern."""
+    return struct.unpack('<d', struct.pack('<Q', pattern))[0]
 
 
 def from_cell(text, form):

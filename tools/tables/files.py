@@ -8,10 +8,11 @@ import csv
 import io
 import math
 
-from tables.fields import ANSWERS, KINDS, ROWS, WIDTH, from_cell, from_column, to_cell, to_column
+from tables.columns import ANSWERS, KINDS, ROWS, WIDTH
+from tables.fields import from_cell, from_column, to_cell, to_column
+from tables.statuses import Status, given_in
 
 SHOWN = 20   # faults of a file that are told one by one
-WINDOW_FULL, BADLY_FORMED, LAST_STATUS = 4, 5, 6
 
 
 class Refused(Exception):
@@ -169,14 +170,14 @@ def read_line(table, text, place, faults):
 def read_answers(kind, data, name):
     """For each line of the output its status and its values, which are None where the row was refused."""
     lines, rest = split(data)
-    answers, faults = [], []
+    answers, faults, known = [], [], given_in(kind)
     for line, text in enumerate(lines, 1):
         table = ANSWERS[kind][:1] if len(text) == WIDTH else ANSWERS[kind]
         values = read_line(table, text, f'line {line}', faults)
         if values is None:
             continue
         status, *values = values
-        if not 0 <= status <= LAST_STATUS or (status == 0) != bool(values):
+        if status not in known or (status == Status.ACCEPTED) != bool(values):
             faults.append(f'line {line}, column status: {status} with {len(values)} outputs')
         answers.append((status, values or None))
     if rest:
@@ -186,13 +187,13 @@ def read_answers(kind, data, name):
     return answers
 
 
-def refusal(row, last):
-    """Which of 1, 2 and 3 a row is refused with after an accepted one of the time `last`, or 0."""
+def status_of(row, last):
+    """The status of a row after an accepted one of the time `last`, wherever the window has room."""
     if not all(map(math.isfinite, row)):
-        return 1
+        return Status.NOT_FINITE
     if math.copysign(1.0, row[0]) < 0:
-        return 2
-    return 3 if last is not None and row[0] < last else 0
+        return Status.SIGNED_TIME
+    return Status.EARLIER if last is not None and row[0] < last else Status.ACCEPTED
 
 
 def played(rows_data, rows_name, answers_data, answers_name, wanted=None):
@@ -205,10 +206,10 @@ def played(rows_data, rows_name, answers_data, answers_name, wanted=None):
         raise Refused(answers_name, [f'{len(answers)} answers to the {len(rows)} rows of {rows_name}'])
     faults, last = [], None
     for line, (row, (status, _)) in enumerate(zip(rows, answers), 1):
-        due = BADLY_FORMED if row is None else refusal(row, last)
-        if status != due and not (status == WINDOW_FULL and due == 0 and kind == 'relief'):
+        due = Status.BADLY_FORMED if row is None else status_of(row, last)
+        if status != due and not (status == Status.WINDOW_FULL and due == Status.ACCEPTED):
             faults.append(f'line {line}: status {status}, but line {line + 1} of {rows_name} gets {due}')
-        if row is not None and due == status == 0:
+        if due == status == Status.ACCEPTED:
             last = row[0]
     if faults:
         raise Refused(answers_name, faults)

@@ -7,8 +7,9 @@ so its mark stands at the last accepted row before it.
 import math
 from xml.sax.saxutils import escape
 
-from tables.fields import ANSWERS, ROWS
+from tables.columns import ANSWERS, ROWS
 from tables.files import Refused
+from tables.statuses import Status
 
 TITLE = 'Freeze protection: stage and supply air temperature'
 
@@ -78,7 +79,7 @@ def steps(low, high, most, sizes=()):
 def draw(rows, answers, title=TITLE):
     taken, refused, last = [], [], None
     for line, (row, (status, values)) in enumerate(zip(rows, answers, strict=True), 1):
-        if status != 0:
+        if status != Status.ACCEPTED:
             refused.append(last)
         elif not 0 <= values[STAGE] <= 3:
             raise Refused('the answers', [f'line {line}: there is no stage {values[STAGE]}'])

@@ -6,7 +6,8 @@ import random
 import re
 import unittest
 
-from tables.fields import ANSWERS, NAN, ROWS, bits, from_cell, from_column, number, to_cell, to_column
+from tables.columns import ANSWERS, ROWS
+from tables.fields import NAN, bits, from_cell, from_column, number, to_cell, to_column
 from tables.tests.common import EDGES, ROOT, pattern
 
 RECORDS = {

@@ -7,7 +7,8 @@ import subprocess
 import sys
 import unittest
 
-from tables.fields import NAN, ROWS, number
+from tables.columns import ROWS
+from tables.fields import NAN, number
 
 ROOT = os.path.normpath(os.path.join(os.path.dirname(os.path.abspath(__file__)), '..', '..', '..'))
 REFERENCE = os.path.join(ROOT, 'target', 'compare', 'reference')

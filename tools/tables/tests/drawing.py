@@ -7,7 +7,7 @@ import unittest
 import xml.etree.ElementTree as tree
 
 from tables import files, timeline
-from tables.fields import ANSWERS, ROWS
+from tables.columns import ANSWERS, ROWS
 from tables.tests.common import table
 
 SVG = '{http://www.w3.org/2000/svg}'

@@ -1,4 +1,4 @@
-"""The files that are kept: the winters, the row files, answers and tables of docs/ANSWERS.md, and the columns of docs/ROW_FILES.md."""
+"""The files that are kept: the winters, the tables of docs/ANSWERS.md, and the statuses and columns of docs/ROW_FILES.md."""
 
 import csv
 import io
@@ -7,7 +7,8 @@ import re
 import unittest
 
 from tables import files, timeline
-from tables.fields import ANSWERS as OUTPUTS, ROWS, WORDS
+from tables.columns import ANSWERS as OUTPUTS, ROWS, WORDS
+from tables.statuses import Status, whose
 from tables.tests.common import ROOT, needs_reference, play, read
 
 WINTERS = {'cold-snap.csv': 'freeze', 'relief-hour.csv': 'relief', 'warm-spell.csv': 'econ'}
@@ -18,6 +19,12 @@ def joined(rows, answers):
     """Each row with its answer, by column name."""
     text = files.joined_csv(*files.played(rows, 'rows', answers, 'answers')).decode()
     return list(csv.DictReader(io.StringIO(text)))
+
+
+def cells(text):
+    """The cells of a table of a page: its head, and the lines below the rule."""
+    head, _, *body = [[cell.strip() for cell in line.strip('|').split('|')] for line in text.splitlines()]
+    return head, body
 
 
 def turns(lines, name):
@@ -80,7 +87,7 @@ class Answers(unittest.TestCase):
         self.assertEqual(sorted(name for name, _ in shown), ANSWERS)
         for name, text in shown:
             with self.subTest(name=name):
-                head, _, *body = [[cell.strip() for cell in line.strip('|').split('|')] for line in text.splitlines()]
+                head, body = cells(text)
                 lines = joined(read('docs', 'answers', f'{name}.rows'), read('docs', 'answers', f'{name}.out'))
                 self.assertEqual(body, [[line[column] for column in head] for line in lines])
                 kind = files.read_rows(read('docs', 'answers', f'{name}.rows'), name)[0]
@@ -95,5 +102,10 @@ class RowFiles(unittest.TestCase):
         self.assertEqual([kind for kind, _, _ in shown], list(ROWS))
         for kind, *texts in shown:
             for text, columns in zip(texts, (ROWS[kind], OUTPUTS[kind])):
-                lines = [[cell.strip() for cell in line.strip('|').split('|')] for line in text.splitlines()[2:]]
-                self.assertEqual(lines, [[name, WORDS[form]] for name, form in columns])
+                self.assertEqual(cells(text)[1], [[name, WORDS[form]] for name, form in columns])
+
+    def test_the_statuses_are_those_of_the_tool(self):
+        """Its table of statuses is the tool's, in order and word for word."""
+        page = read('docs', 'ROW_FILES.md').decode()
+        shown, = re.findall(r'## Statuses\n\n[^|]*((?:\|.*\n)+)', page)
+        self.assertEqual(cells(shown)[1], [[str(int(each)), whose(each), each.meaning] for each in Status])

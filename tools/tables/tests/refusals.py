@@ -5,7 +5,8 @@ import tempfile
 import unittest
 
 from tables import files
-from tables.fields import NAN, ROWS
+from tables.columns import ROWS
+from tables.fields import NAN
 from tables.tests.common import rows_of, table
 
 HEAD = ','.join(name for name, _ in ROWS['econ'])
@@ -107,6 +108,7 @@ class Refusals(unittest.TestCase):
                 (ANSWER + ANSWER[1:], 'line 2: 104 bytes where 105 stand in 5 columns'),
                 (b'%21d\n' % 0, 'line 1, column status: 0 with 0 outputs'),
                 (b'%21d\n' % 7, 'line 1, column status: 7 with 0 outputs'),
+                (b'%21d\n' % 4, 'line 1, column status: 4 with 0 outputs'),
                 (b'%21d' % 3 + ANSWER[21:], 'line 1, column status: 3 with 4 outputs'),
                 (ANSWER[:42] + b'%21d' % 2 + ANSWER[63:],
                  f"line 1, column minimum_outdoor_air_loop_enabled: '{2:21d}' is not 0 or 1")):

@@ -8,7 +8,8 @@ import subprocess
 import unittest
 
 from tables import files
-from tables.fields import ANSWERS, KINDS, NAN, ROWS, from_cell, number, to_column
+from tables.columns import ANSWERS, KINDS, ROWS
+from tables.fields import NAN, from_cell, number, to_column
 from tables.tests.common import GENERATE, needs_reference, pattern, play, rows_of, table
 
 SEEDS = range(1, 72, 5)   # every sort of file: odd times, odd fields, damaged lines
