@@ -9,11 +9,16 @@ import time
 from collections import namedtuple
 
 import comparing
-from comparing import ANSWERS, REFERENCE, ROWS, TARGET
+from comparing import REFERENCE, TARGET
+from tables.columns import ANSWERS, ROWS, WIDTH
+from tables.statuses import Status
 
 SECONDS = 60     # longer than a program needs for any of the files
 PIECES = [1, 20, 21, 252, 253, 4000, 4096, 30000, 65536]
 NO_END = f'did not end within {SECONDS} s'
+
+# A row file to play: its kind, what it is called, the command that prints it, and the seed of its pieces.
+File = namedtuple('File', 'kind name command seed')
 
 # A difference: answer line and column, counted from 0, and the two lines, None where there is none.
 Place = namedtuple('Place', 'index column expected got')
@@ -52,7 +57,7 @@ def answers(program, path, seed=0):
         return out.read(), status and f'ended with status {status}'
 
 
-def play(program, kind, path, seed=0):
+def play(program, path, seed=0):
     """What goes wrong with this file: a Place, a sentence, or None."""
     expected, wrong = answers(REFERENCE, path)
     if wrong:
@@ -60,7 +65,7 @@ def play(program, kind, path, seed=0):
     got, wrong = answers(program, path, seed)
     if wrong:
         return f'the program {wrong}'
-    found = comparing.difference(kind, expected, got)
+    found = comparing.difference(expected, got)
     return found and Place(*found, line_at(expected, found[0]), line_at(got, found[0]))
 
 
@@ -72,8 +77,9 @@ def line_at(text, index):
 class Difference:
     """A file on which the two differ, cut down to lines that suffice for a difference."""
 
-    def __init__(self, program, kind, seed, path, found, seconds=20):
-        self.program, self.kind, self.seed, self.found = program, kind, seed, found
+    def __init__(self, program, file, path, found, seconds=20):
+        self.program, self.file, self.found = program, file, found
+        self.kind, self.seed = file.kind, file.seed
         self.saved = os.path.join(TARGET, 'difference.rows')
         with open(path, 'rb') as rows:
             self.lines = rows.read().splitlines(keepends=True)
@@ -91,11 +97,11 @@ class Difference:
     def wrong(self, lines):
         with open(self.saved, 'wb') as rows:
             rows.writelines(lines)
-        return play(self.program, self.kind, self.saved, self.seed)
+        return play(self.program, self.saved, self.seed)
 
     def show(self):
         found = self.found if isinstance(self.found, str) else f'answer line {self.found.index + 1} differs'
-        print(f'first difference: {self.kind}, seed {self.seed}: {found}')
+        print(f'first difference: {self.kind}, {self.file.name}: {found}')
         pieces = ', handed over in pieces' if self.seed % 4 == 3 else ''
         saved = os.path.relpath(self.saved)
         print(f'  the input, cut down to {len(self.lines)} lines{pieces}, is in {saved}')
@@ -123,16 +129,19 @@ class Difference:
             return 'no line'
         if place is None:
             return line[:300].decode('ascii', 'backslashreplace')
-        form = ANSWERS[self.kind][place][1]
+        name, form = ANSWERS[self.kind][place]
         column = comparing.columns(line)[place]
-        value = f' ({comparing.read(column, form)!r})' if form == 'f' else ''
-        return column.decode('ascii', 'backslashreplace').strip() + value
+        value = comparing.read(column, form)
+        if name == 'status':
+            value = Status(value).meaning if value in list(Status) else 'no status'
+        words = f' ({value})' if form == 'f' or name == 'status' else ''
+        return column.decode('ascii', 'backslashreplace').strip() + words
 
 
 def show_row(kind, line):
     """A row line in words where it is well formed, else its bytes."""
     values = [comparing.read(column, form)
               for column, (_, form) in zip(comparing.columns(line.rstrip(b'\n')), ROWS[kind])]
-    if len(line) != len(ROWS[kind]) * comparing.WIDTH + 1 or None in values:
+    if len(line) != len(ROWS[kind]) * WIDTH + 1 or None in values:
         return repr(line[:300])
     return ', '.join(f'{name} {value!r}' for (name, _), value in zip(ROWS[kind], values))

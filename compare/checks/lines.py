@@ -1,7 +1,7 @@
 """The reference's row reader: document 01, 'Row lines' and the refusals 5 and 6."""
 
 from checks.report import answers, expect, statuses
-from comparing import KINDS
+from tables.columns import KINDS
 
 KIND = b'econ\n'
 ROW = (b'                    0                    0                    0                    0'

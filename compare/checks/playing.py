@@ -5,7 +5,8 @@ import math
 import comparing
 from checks.cases import CASES, DEFAULTS, NAMES
 from checks.report import answers, check, expect, statuses
-from comparing import ANSWERS, ROWS
+from tables.columns import ANSWERS, ROWS
+from tables.files import write_rows
 
 
 def value(word):
@@ -26,8 +27,7 @@ def table(kind, text):
 
 
 def row_file(kind, rows):
-    lines = [comparing.line(kind, [row[name] for name, _ in ROWS[kind]]) for row in rows]
-    return kind.encode() + b'\n' + b''.join(lines)
+    return write_rows(kind, [[row[name] for name, _ in ROWS[kind]] for row in rows])
 
 
 def records(kind, text):

@@ -8,16 +8,15 @@ import tempfile
 
 import comparing
 from checks.report import answers, check, script
-from comparing import COMPARE, GENERATE, REFERENCE, TARGET
+from comparing import COMPARE, GENERATE, REFERENCE, ROOT, SCENARIOS, TARGET
 
-ROOT = os.path.dirname(COMPARE)
 SEQUENCES = 'docs/src/tools/golden-gen/src/sequences'
 
 
 def check_scenarios():
-    for scenario in ('freeze', 'fine_step', 'relief', 'econ'):
+    for scenario in sum(SCENARIOS.values(), []):
         rows, published = (subprocess.run(words, stdout=subprocess.PIPE, check=True).stdout for words in (
-            [REFERENCE, 'scenario', scenario], [os.path.join(TARGET, 'published'), scenario]))
+            comparing.scenario(scenario), [os.path.join(TARGET, 'published'), scenario]))
         got = answers(rows)
         if scenario == 'fine_step':
             # Its goldens hold the stage and the heating coil alone.
@@ -55,26 +54,42 @@ def check_edits():
 def check_build():
     with tempfile.TemporaryDirectory() as folder:
         # A copy in which nothing is built, and the tools that the scripts need, without rustc.
-        for name in ('compare', 'docs/src'):
+        for name in ('compare', 'docs/src', 'tools/tables'):
             shutil.copytree(os.path.join(ROOT, name), os.path.join(folder, name))
-        tools = os.path.join(folder, 'tools')
+        tools = os.path.join(folder, 'needed')
         os.mkdir(tools)
         os.symlink(sys.executable, os.path.join(tools, 'python3'))
         for tool in ('bash', 'dirname', 'find', 'mkdir', 'mv', 'rm', 'touch'):
             os.symlink(shutil.which(tool), os.path.join(tools, tool))
 
-        def run():
-            return subprocess.run([os.path.join(folder, 'compare/run'), REFERENCE, '2'], env={'PATH': tools},
-                                  stdout=subprocess.PIPE, stderr=subprocess.DEVNULL, text=True)
+        def run(program=REFERENCE):
+            return subprocess.run([os.path.join(folder, 'compare/run'), program, '2'], env={'PATH': tools},
+                                  stdout=subprocess.PIPE, stderr=subprocess.PIPE, text=True)
         ended = run()
         check('without rustc the comparison is skipped and says so',
               '' if ended.returncode == 0 and 'skipped' in ended.stdout
               and ended.stdout.endswith('\n0 passed, 0 failed\n') else ended.stdout)
+        check_stale(folder, run)
         script(os.path.join(tools, 'rustc'), '#!/bin/bash\nexit 1\n')
         ended = run()
         check('with rustc, a comparison that cannot be built is a failure',
               '' if ended.returncode != 0
               and ended.stdout.endswith('\n0 passed, 1 failed\n') else ended.stdout)
+
+
+def check_stale(folder, run):
+    """The runner warns of a program that is older than its code, and still plays it."""
+    program, code = (os.path.join(folder, *path) for path in (('target', 'bin', 'rows'), ('crates', 'rows', 'src', 'main.rt')))
+    for path in (program, code):
+        os.makedirs(os.path.dirname(path))
+        script(path, '#!/bin/bash\n')
+    for newer, warned in ((program, False), (code, True)):
+        for path in (program, code):
+            os.utime(path, (path == newer, path == newer))
+        ended = run(program)
+        told = ended.stderr.count('warning') == 1 and program in ended.stderr
+        check(f'{"a" if warned else "no"} warning where {"the code" if warned else "the program"} is newer',
+              '' if ended.returncode == 0 and (told if warned else not ended.stderr) else ended.stderr or 'no warning')
 
 
 def refuses(name, words, **streams):
@@ -94,7 +109,7 @@ def check_command_lines():
         refuses(f'generate {words}'.rstrip(), [GENERATE, *words.split()])
     refuses('events count NO-SUCH-FILE', [comparing.EVENTS, 'count', os.path.join(TARGET, 'no-such-file')])
     refuses('extract', [os.path.join(COMPARE, 'extract')])
-    for script in ('run', 'speed'):
+    for script in ('run', 'speed', 'instructions'):
         path = os.path.join(COMPARE, script)
         refuses(script, [path])
         refuses(f'{script} NO-SUCH-PROGRAM', [path, './no-such-program'])

@@ -1,4 +1,4 @@
-"""The runner must find wrong programs, and pass programs that differ in nothing that counts."""
+"""The runner must find wrong programs, and pass one that is right."""
 
 import os
 import signal
@@ -7,9 +7,7 @@ import tempfile
 import time
 
 from checks.report import check, script
-from comparing import ANSWERS, COMPARE, REFERENCE
-
-MINUS_ZERO = '  9223372036854775808'
+from comparing import COMPARE, REFERENCE, SCENARIOS
 
 # Programs that change the reference's output: what comes after `reference` in a shell.
 WRONG = [
@@ -20,13 +18,9 @@ WRONG = [
     ('no last newline', "| awk 'NR > 1 { print line } { line = $0 } END { printf \"%s\", line }'"),
     ('nothing printed', '> /dev/null'),
     ('a wrong end status', '; exit 3'),
-    ('the sign of a zero where an integer stands', f"| sed -E 's/^ {{20}}0( )/{MINUS_ZERO}\\1/'"),
+    ('a minus before a zero', "| sed -E 's/^(.{63}) {20}0/\\1  9223372036854775808/'"),
     ('a zero for a NaN', "| sed 's/9221120237041090560/                  0/g'"),
-]
-RIGHT = [
-    ('the sign of every zero', '| sed -E {zeros}'),
-    ('the pattern of every NaN', "| sed 's/  9221120237041090560/ 18444492273895866369/g'"),
-    ('nothing', ''),
+    ('another pattern of a NaN', "| sed 's/9221120237041090560/9221120237041090561/g'"),
 ]
 
 
@@ -35,18 +29,16 @@ def start(program, rounds, kind):
                             stdout=subprocess.PIPE, text=True)
 
 
-def play(folder, kind, rounds, change):
+def play(folder, kind, rounds, change=''):
     program = os.path.join(folder, 'program')
-    floats = [place for place, (_, form) in enumerate(ANSWERS[kind]) if form == 'f']
-    zeros = ' '.join(f"-e 's/^(.{{{21 * place}}}) {{20}}0/\\1{MINUS_ZERO}/'" for place in floats)
-    script(program, f'#!/bin/bash\n"{REFERENCE}" {change.replace("{zeros}", zeros)}\n')
+    script(program, f'#!/bin/bash\n"{REFERENCE}" {change}\n')
     runner = start(program, rounds, kind)
     printed = runner.communicate()[0]
     return runner.returncode, printed
 
 
-def passes_all(status, printed, rounds):
-    return status == 0 and printed.endswith(f'\n{rounds} passed, 0 failed\n')
+def passes_all(status, printed, rounds, kind):
+    return status == 0 and printed.endswith(f'\n{rounds + len(SCENARIOS[kind])} passed, 0 failed\n')
 
 
 def check_interrupted(folder):
@@ -61,7 +53,7 @@ def check_interrupted(folder):
         runner.send_signal(signal.SIGCONT)
     printed = runner.stdout.read()
     runner.stdout.close()
-    clear = passes_all(runner.returncode, printed, 12)
+    clear = passes_all(runner.returncode, printed, 12, 'relief')
     check('the runner loses no bytes when it is interrupted', '' if clear else printed)
 
 
@@ -72,9 +64,7 @@ def check_runner():
             counts = printed.splitlines()[-1].split()
             found = status != 0 and 'first difference' in printed and counts[2] != '0'
             check(f'the runner finds {name}', '' if found else printed)
-        for kind in ANSWERS:
-            for name, change in RIGHT:
-                status, printed = play(folder, kind, 12, change)
-                clear = passes_all(status, printed, 12)
-                check(f'the runner passes {kind} rows where {name} differs', '' if clear else printed)
+        for kind in SCENARIOS:
+            status, printed = play(folder, kind, 12)
+            check(f'the runner passes the reference on {kind} rows', '' if passes_all(status, printed, 12, kind) else printed)
         check_interrupted(folder)
