@@ -9,8 +9,8 @@ import unittest
 
 from tables.columns import ROWS
 from tables.fields import NAN, number
+from tables.stored import ROOT
 
-ROOT = os.path.normpath(os.path.join(os.path.dirname(os.path.abspath(__file__)), '..', '..', '..'))
 REFERENCE = os.path.join(ROOT, 'target', 'compare', 'reference')
 GENERATE = os.path.join(ROOT, 'target', 'compare', 'generate')
 

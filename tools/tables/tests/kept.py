@@ -2,17 +2,16 @@
 
 import csv
 import io
-import os
 import re
 import unittest
 
 from tables import files, timeline
-from tables.columns import ANSWERS as OUTPUTS, ROWS, WORDS
+from tables.columns import ANSWERS, ROWS, WORDS
 from tables.statuses import Status, whose
-from tables.tests.common import ROOT, needs_reference, play, read
+from tables.stored import stored
+from tables.tests.common import needs_reference, play, read
 
 WINTERS = {'cold-snap.csv': 'freeze', 'relief-hour.csv': 'relief', 'warm-spell.csv': 'econ'}
-ANSWERS = sorted(name[:-5] for name in os.listdir(os.path.join(ROOT, 'docs', 'answers')) if name.endswith('.rows'))
 
 
 def joined(rows, answers):
@@ -74,23 +73,19 @@ class Winters(unittest.TestCase):
 
 
 class Answers(unittest.TestCase):
-    def test_the_stored_answers_are_the_reference_s(self):
-        needs_reference()
-        self.assertGreaterEqual(len(ANSWERS), 3)
-        for name in ANSWERS:
-            self.assertEqual(play(read('docs', 'answers', f'{name}.rows')), read('docs', 'answers', f'{name}.out'), name)
-
-    def test_every_file_is_shown_as_it_is(self):
-        """A table of docs/ANSWERS.md after the name of a row file holds columns of its rows and answers."""
+    def test_every_list_is_shown_as_it_is(self):
+        """A table of docs/ANSWERS.md after the name of a row file holds columns of its rows and answers. The page
+        shows every stored file whose name does not begin with a kind."""
         page = read('docs', 'ANSWERS.md').decode()
-        shown = re.findall(r'tools/play docs/answers/(\S+)\.rows\n\n((?:\|.*\n)+)', page)
-        self.assertEqual(sorted(name for name, _ in shown), ANSWERS)
+        shown = re.findall(r'tools/play played/(\S+)\.rows\n\n((?:\|.*\n)+)', page)
+        lists = {name: played for name, *played in stored() if name.split('_')[0] not in ROWS}
+        self.assertEqual(sorted(name for name, _ in shown), list(lists))
         for name, text in shown:
             with self.subTest(name=name):
                 head, body = cells(text)
-                lines = joined(read('docs', 'answers', f'{name}.rows'), read('docs', 'answers', f'{name}.out'))
+                lines = joined(*lists[name])
                 self.assertEqual(body, [[line[column] for column in head] for line in lines])
-                kind = files.read_rows(read('docs', 'answers', f'{name}.rows'), name)[0]
+                kind = files.read_rows(lists[name][0], name)[0]
                 self.assertLessEqual({column for column, _ in ROWS[kind] if len({line[column] for line in lines}) > 1}, set(head))
 
 
@@ -101,7 +96,7 @@ class RowFiles(unittest.TestCase):
         shown = re.findall(r'`(\w+)`\n\nA row:\n\n((?:\|.*\n)+)\nIts answer:\n\n((?:\|.*\n)+)', page)
         self.assertEqual([kind for kind, _, _ in shown], list(ROWS))
         for kind, *texts in shown:
-            for text, columns in zip(texts, (ROWS[kind], OUTPUTS[kind])):
+            for text, columns in zip(texts, (ROWS[kind], ANSWERS[kind])):
                 self.assertEqual(cells(text)[1], [[name, WORDS[form]] for name, form in columns])
 
     def test_the_statuses_are_those_of_the_tool(self):
