@@ -1,8 +1,8 @@
 /* Woldgrater for firmware: freeze protection, relief fan group and economizer of air handlers, played row by row.
  *
  * The functions are proved: for all bytes they do exactly what is said here, end, and touch no memory but what they are lent.
- * They keep nothing between calls, take no memory of their own but the stack (some 30 KB for woldgrater_play, 23 KB for
- * woldgrater_feed), and call nothing but memcpy, memmove and memset.
+ * They keep nothing between calls, take no memory of their own but the stack (as measured: 37 KB for woldgrater_play, 30 KB for
+ * woldgrater_feed, 10 KB for the other two), and call nothing but memcpy, memmove and memset.
  *
  * Link target/staticlib/libwoldgrater.a, which `rt staticlib woldgrater` writes (x86-64, System V calls).
  *

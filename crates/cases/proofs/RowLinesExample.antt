@@ -20,24 +20,26 @@ use Rattle.reals.specs.Constants.{plusZero, one}
 use Rattle.economizer_controller.specs.declared.types.EconomizerRow.{EconomizerRow}
 use Rattle.economizer_controller.specs.declared.types.EconomizerCommands.{EconomizerCommands}
 use Rattle.economizer_controller.specs.declared.types.EconomizerAnswer.the-variants as answer
-use Rattle.econ_lines.specs.declared.econ.EconLine.the-variants.{Row}
 use Rattle.economizer_controller.specs.Integers.{integersEqual}
 use Rattle.economizer_controller.specs.Verdict.{numbersFinite, economizerVerdict}
 use Rattle.economizer_controller.specs.DamperLimits.{minimumOutdoorAirLoopEnabled, damperLimits}
 use Rattle.economizer_controller.specs.Enable.{enableNew, enableOutput, enableLimits}
 use Rattle.economizer_controller.specs.Relief.{reliefModulation}
 use Rattle.economizer_controller.specs.Step.{economizerFresh, economizerSignals, economizerCommands, stepBy, economizerRow}
-use Rattle.row_lines.specs.Scan.{digit, decimal}
-use Rattle.row_lines.specs.Column.{column}
-use Rattle.row_lines.specs.Field.{readUnsigned, readSigned, readYesNo, readReal}
-use Rattle.row_lines.specs.Line.{columnOf}
-use Rattle.lines.specs.Lines.{linesAfter, restAfter, answers, feed}
-use Rattle.lines.specs.Lines as Lines
-use Rattle.row_reader.specs.declared.kind.Kind.the-variants.{Econ}
-use Rattle.row_reader.specs.Kind.{kindOf}
-use Rattle.row_reader.specs.Reader.{readerLine, readerOutput}
-use Rattle.row_reader.specs.Rows.{rowsOutput}
-use Rattle.econ_lines.specs.Econ.{econLine, econCommandsLine, econAnswerLine, econAnswer, econAnswered}
+use Rattle.columns.specs.Scan.{digit, decimal}
+use Rattle.columns.specs.Column.{column}
+use Rattle.columns.specs.Forms.{isWord, wordColumn, readWord, columnsGood, wellFormed, wordsOf, lineOf}
+use Rattle.columns.specs.Word.{wordSigned}
+use Rattle.columns.specs.Line.{answerLine}
+use Rattle.line_stream.specs.Lines.{linesAfter, restAfter, answers, feed}
+use Rattle.line_stream.specs.Lines as Lines
+use Rattle.line_stream.specs.RowKind.{Row, rowLine, readAnswered, lineAnswered}
+use Rattle.row_kinds.specs.declared.kind.Kind.the-variants.{Econ}
+use Rattle.row_kinds.specs.declared.kind.Phase.the-variants.{Rows}
+use Rattle.row_kinds.specs.Kind.{phaseAfter}
+use Rattle.row_kinds.specs.Reader.{readerLine, readerOutput}
+use Rattle.row_kinds.specs.Rows.{rowsOutput}
+use Rattle.econ_lines.specs.Econ.{econRowOf, econAnswerForms, econCommandWords, econAnswerWords, econLine, econAnswered}
 use Rattle.cases.specs.RowLines.{bytesOf, firstText, rowText, answerText, inputBytes, outputBytes}
 
 -- the input's lines, and nothing after them
@@ -50,8 +52,8 @@ unfolding inputBytes firstText rowText bytesOf restAfter
 rest-is = refl
 
 -- the first line names the kind
-kind-is : kindOf firstText ≡ Econ
-unfolding kindOf firstText bytesOf
+kind-is : phaseAfter firstText ≡ Rows Econ
+unfolding phaseAfter firstText bytesOf
 kind-is = refl
 
 -- the row that the line is read as, and its commands
@@ -68,7 +70,7 @@ row = record {
 }
 
 row-is : econLine rowText ≡ Row row
-unfolding row econLine rowText bytesOf digit decimal column columnOf readUnsigned readSigned readYesNo readReal round ofBits
+unfolding row rowLine econRowOf rowText bytesOf digit decimal column wellFormed columnsGood wordsOf isWord wordColumn readWord wordSigned round ofBits
 row-is = refl
 
 commands : EconomizerCommands
@@ -79,12 +81,12 @@ unfolding row commands economizerRow stepBy economizerVerdict judge numbersFinit
 answer-is = refl
 
 -- the line of the commands
-line-is : econCommandsLine commands ≡ outputBytes
-unfolding econCommandsLine commands outputBytes answerText bytesOf column toBits ofBits
+line-is : answerLine econAnswerForms (econAnswerWords (answer.Commands commands)) ≡ outputBytes
+unfolding answerLine econAnswerWords econCommandWords commands outputBytes answerText bytesOf lineOf wordColumn column toBits ofBits
 line-is = refl
 
 said-is : econAnswered economizerFresh rowText .said ≡ outputBytes
-unfolding econAnswered econAnswer econAnswerLine
+unfolding lineAnswered readAnswered
 said-is = rw (row-is, answer-is) line-is
 
 pub example-is-written : rowsOutput inputBytes ≡ outputBytes

@@ -11,7 +11,7 @@ use Rattle.relief_fans.specs.Blocks.{delayAt}
 use Rattle.relief_fan_group.specs.declared.types.ReliefRow.{ReliefRow}
 use Rattle.relief_fan_group.specs.declared.types.ReliefState.{ReliefState}
 use Rattle.relief_fan_group.specs.Step.{reliefFresh, reliefRow}
-use Rattle.row_reader.specs.Rows.{rowsOutput}
+use Rattle.row_kinds.specs.Rows.{rowsOutput}
 use Rattle.cases.specs.Words.{zero, taken}
 use Rattle.cases.specs.Freeze.{FreezeOthers, at, resetAt, stages, signalled, isCold, callsStage3, isHeld, hourPassed}
 use Rattle.cases.specs.Relief.{told, AlarmGuard, Waits}

@@ -3,7 +3,7 @@ use Prim.Native.Nat.{ℕ}
 use Prim.Native.Char.{code}
 use Prim.Native.String.{String, [] as none, _∷_ as _before_}
 use mathlib.Core.List.{List, [], _∷_, _++_}
-use Rattle.row_lines.specs.Line.{endOfLine}
+use Rattle.columns.specs.Line.{endOfLine}
 
 -- the bytes of a text whose characters are all of ASCII
 unfoldable pub bytesOf : String → List ℕ

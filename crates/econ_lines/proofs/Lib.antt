@@ -1,2 +1,2 @@
 -- The laws that the proofs cite.
-pub mod EconLines
+pub mod Sized

@@ -2,68 +2,92 @@
 -- `ControllerTrace`, or the status alone.
 use Prim.Native.Nat.{ℕ}
 use mathlib.Core.List.{List, [], _∷_}
-use mathlib.Core.Bool.{cond}
 use lib.Dec.{eqb}
-use lib.ListN.{length}
-use Rattle.row_lines.specs.Field.{unsignedColumn, yesNoColumn, realColumn, readSigned, readYesNo, readReal}
-use Rattle.row_lines.specs.Line.{columnOf, joined, endOfLine, statusLine, realThen, yesNoThen, signedThen}
+use lib.ListN.{getD}
+use lib.Ieee.{binary64, ofBits, toBits}
+use Rattle.columns.specs.Forms.{float, yesNo, signed, unsigned}
+use Rattle.columns.specs.Word.{yesNoWord, wordSigned}
+use Rattle.line_stream.specs.Lines.{Answer}
+use Rattle.line_stream.specs.RowKind.{RowKind, RowLine, rowLine, lineAnswered}
 use Rattle.refusals.specs.Refusals.{refusalNumber}
+use Rattle.economizer_controller.specs.declared.types.EconomizerRow.{EconomizerRow}
 use Rattle.economizer_controller.specs.declared.types.EconomizerState.{EconomizerState}
 use Rattle.economizer_controller.specs.declared.types.EconomizerCommands.{EconomizerCommands}
 use Rattle.economizer_controller.specs.declared.types.EconomizerAnswer.{EconomizerAnswer}
 use Rattle.economizer_controller.specs.declared.types.EconomizerAnswer.the-variants as answer
 use Rattle.economizer_controller.specs.Step.{economizerRow}
-use Rattle.lines.specs.Lines.{Answer}
-use Rattle.econ_lines.specs.declared.econ.EconLine.{EconLine}
-use Rattle.econ_lines.specs.declared.econ.EconLine.the-variants.{Row, Malformed}
 
--- the row of a line of eight columns
-unfoldable pub econLine : List ℕ → EconLine
-econLine line =
-    cond (eqb (length line) 168)
-    (realThen Malformed (readReal (columnOf line 0)) (λ time.
-    realThen Malformed (readReal (columnOf line 1)) (λ airflow.
-    realThen Malformed (readReal (columnOf line 2)) (λ setpoint.
-    realThen Malformed (readReal (columnOf line 3)) (λ signal.
-    realThen Malformed (readReal (columnOf line 4)) (λ temperature.
-    yesNoThen Malformed (readYesNo (columnOf line 5)) (λ fan.
-    signedThen Malformed (readSigned (columnOf line 6)) (λ mode.
-    signedThen Malformed (readSigned (columnOf line 7)) (λ stage.
-    Row (record {
-      time = time;
-      «outdoor_airflow_normalized» = airflow;
-      «minimum_outdoor_airflow_setpoint_normalized» = setpoint;
-      «supply_temperature_signal» = signal;
-      «outdoor_air_temperature» = temperature;
-      «supply_fan_status» = fan;
-      «operation_mode» = mode;
-      «freeze_protection_stage» = stage;
-    }))))))))))
-    Malformed
+-- ---- a row
 
--- the line of an accepted row: status 0, the commands, and its end
-abbrev pub econColumns : EconomizerCommands → List (List ℕ)
-econColumns commands =
-    unsignedColumn 0
-    ∷ realColumn (commands .«outdoor_damper_min_limit»)
-    ∷ yesNoColumn (commands .«minimum_outdoor_air_loop_enabled»)
-    ∷ realColumn (commands .«outdoor_damper_command»)
-    ∷ realColumn (commands .«return_damper_command»)
-    ∷ endOfLine
+-- its columns: the form of each, and the field that it holds
+abbrev pub econRowForms : List ℕ
+econRowForms =
+    float  -- time
+    ∷ float  -- outdoor_airflow_normalized
+    ∷ float  -- minimum_outdoor_airflow_setpoint_normalized
+    ∷ float  -- supply_temperature_signal
+    ∷ float  -- outdoor_air_temperature
+    ∷ yesNo  -- supply_fan_status
+    ∷ signed  -- operation_mode
+    ∷ signed  -- freeze_protection_stage
     ∷ []
 
-unfoldable pub econCommandsLine : EconomizerCommands → List ℕ
-econCommandsLine commands = joined (econColumns commands)
+-- the row of their words
+unfoldable pub econRowOf : List ℕ → EconomizerRow
+econRowOf words = record {
+  time = ofBits binary64 (getD words 0 0);
+  «outdoor_airflow_normalized» = ofBits binary64 (getD words 1 0);
+  «minimum_outdoor_airflow_setpoint_normalized» = ofBits binary64 (getD words 2 0);
+  «supply_temperature_signal» = ofBits binary64 (getD words 3 0);
+  «outdoor_air_temperature» = ofBits binary64 (getD words 4 0);
+  «supply_fan_status» = eqb (getD words 5 0) 1;
+  «operation_mode» = wordSigned (getD words 6 0);
+  «freeze_protection_stage» = wordSigned (getD words 7 0);
+}
 
--- the line of an answer
-unfoldable pub econAnswerLine : EconomizerAnswer → List ℕ
-econAnswerLine (answer.Commands commands) = econCommandsLine commands
-econAnswerLine (answer.Refused refusal) = statusLine (refusalNumber refusal)
+-- ---- an answer
 
--- a line that is read answered: the row's answer and the next state; 5, and the state as it was, where the line is badly formed
-unfoldable pub econAnswer : EconomizerState → EconLine → Answer EconomizerState
-econAnswer state Malformed = record { next = state; said = statusLine 5 }
-econAnswer state (Row row) = let step = economizerRow state row in record { next = step .state; said = econAnswerLine (step .answer) }
+-- its columns
+abbrev pub econAnswerForms : List ℕ
+econAnswerForms =
+    unsigned  -- status
+    ∷ float  -- outdoor_damper_min_limit
+    ∷ yesNo  -- minimum_outdoor_air_loop_enabled
+    ∷ float  -- outdoor_damper_command
+    ∷ float  -- return_damper_command
+    ∷ []
 
-unfoldable pub econAnswered : EconomizerState → List ℕ → Answer EconomizerState
-econAnswered state line = econAnswer state (econLine line)
+-- the words of an accepted row's: status 0, and the commands
+unfoldable pub econCommandWords : EconomizerCommands → List ℕ
+econCommandWords commands =
+    0
+    ∷ toBits binary64 (commands .«outdoor_damper_min_limit»)
+    ∷ yesNoWord (commands .«minimum_outdoor_air_loop_enabled»)
+    ∷ toBits binary64 (commands .«outdoor_damper_command»)
+    ∷ toBits binary64 (commands .«return_damper_command»)
+    ∷ []
+
+-- the words of an answer: the number of a refusal alone
+unfoldable pub econAnswerWords : EconomizerAnswer → List ℕ
+econAnswerWords (answer.Commands commands) = econCommandWords commands
+econAnswerWords (answer.Refused refusal) = refusalNumber refusal ∷ []
+
+-- ---- the kind
+
+abbrev pub econKind : RowKind EconomizerState EconomizerRow EconomizerAnswer
+econKind = record {
+  rowForms = econRowForms;
+  rowOf = econRowOf;
+  next = λ state row. economizerRow state row .state;
+  answer = λ state row. economizerRow state row .answer;
+  answerForms = econAnswerForms;
+  answerWords = econAnswerWords;
+}
+
+-- the row of a line
+abbrev pub econLine : List ℕ → RowLine EconomizerRow
+econLine = rowLine econKind
+
+-- a line answered: the row's answer and the next state
+abbrev pub econAnswered : EconomizerState → List ℕ → Answer EconomizerState
+econAnswered = lineAnswered econKind

@@ -1,186 +1,128 @@
-// Economizer lines: a line read as a row, a row answered by a line, and the lines of a chunk.
+// Economizer lines: the columns of a row and of an answer, the words of a row made into it, an answer made into words.
 ghost use mathlib.Core.Path.{_≡_};
-ghost use Prim.Native.Nat.{_+_, _*_, _≤_};
-ghost use mathlib.Core.List.{_++_};
-ghost use lib.ListN.{length, take};
-ghost use Rattle.row_lines.specs.Column.{Wrote};
-ghost use Rattle.lines.specs.Lines.{feed, Answered, FedAs};
-ghost use Rattle.econ_lines.specs.Econ.{econLine, econCommandsLine, econAnswerLine, econAnswered};
+ghost use Rattle.columns.specs.Forms.{wordList};
+ghost use Rattle.line_stream.specs.RowKind.{Stepped};
+ghost use Rattle.econ_lines.specs.Econ.{econRowOf, econCommandWords, econAnswerWords, econKind};
+use columns::forms::Table;
+use columns::forms::Words;
+use columns::line::status_alone;
+use columns::word::of_pattern;
+use columns::word::pattern;
+use columns::word::word_signed;
+use columns::word::yes_no_word;
 use economizer_controller::step::economizer_row;
 use economizer_controller::types::EconomizerAnswer;
 use economizer_controller::types::EconomizerCommands;
 use economizer_controller::types::EconomizerRow;
 use economizer_controller::types::EconomizerState;
-use lines::keep;
-use lines::line_end;
-use row_lines::field::Real;
-use row_lines::field::Signed;
-use row_lines::field::YesNo;
-use row_lines::field::write_real;
-use row_lines::field::write_unsigned;
-use row_lines::field::write_yes_no;
-use row_lines::line::end_line;
-use row_lines::line::real_at;
-use row_lines::line::signed_at;
-use row_lines::line::write_status_line;
-use row_lines::line::yes_no_at;
 
-// A line without its newline: a row, or badly formed.
-pub enum EconLine {
-    Row(EconomizerRow),
-    Malformed,
-}
+// The columns of a row.
+pub const ECON_ROW: Table = Table {
+    count: 8,
+    forms: [
+        b'f', // time
+        b'f', // outdoor_airflow_normalized
+        b'f', // minimum_outdoor_airflow_setpoint_normalized
+        b'f', // supply_temperature_signal
+        b'f', // outdoor_air_temperature
+        b'b', // supply_fan_status
+        b'i', // operation_mode
+        b'i', // freeze_protection_stage
+        0,
+        0,
+        0,
+        0,
+    ],
+};
 
-// The row of a line: eight columns, the time first and then the fields in their order.
-pub fn econ_line(line: &[u8]) -> EconLine
-    ensures { λ r. ⌜ r ≡ econLine (now (line .entry)) ⌝ }
+// The columns of an answer.
+pub const ECON_ANSWER: Table = Table {
+    count: 5,
+    forms: [
+        b'u', // status
+        b'f', // outdoor_damper_min_limit
+        b'b', // minimum_outdoor_air_loop_enabled
+        b'f', // outdoor_damper_command
+        b'f', // return_damper_command
+        0,
+        0,
+        0,
+        0,
+        0,
+        0,
+        0,
+    ],
+};
+
+// The row of its words.
+fn econ_row_of(words: [u64; 12]) -> EconomizerRow
+    ensures { λ r. ⌜ r ≡ econRowOf words ⌝ }
 {
-    if line.len() != 168 {
-        return EconLine::Malformed;
+    EconomizerRow {
+        time: of_pattern(words[0]),
+        outdoor_airflow_normalized: of_pattern(words[1]),
+        minimum_outdoor_airflow_setpoint_normalized: of_pattern(words[2]),
+        supply_temperature_signal: of_pattern(words[3]),
+        outdoor_air_temperature: of_pattern(words[4]),
+        supply_fan_status: words[5] == 1,
+        operation_mode: word_signed(words[6]),
+        freeze_protection_stage: word_signed(words[7]),
     }
-    let Real::Value(time) = real_at(line, 0) else {
-        return EconLine::Malformed;
-    };
-    let Real::Value(airflow) = real_at(line, 1) else {
-        return EconLine::Malformed;
-    };
-    let Real::Value(setpoint) = real_at(line, 2) else {
-        return EconLine::Malformed;
-    };
-    let Real::Value(signal) = real_at(line, 3) else {
-        return EconLine::Malformed;
-    };
-    let Real::Value(temperature) = real_at(line, 4) else {
-        return EconLine::Malformed;
-    };
-    let YesNo::Value(fan) = yes_no_at(line, 5) else {
-        return EconLine::Malformed;
-    };
-    let Signed::Value(mode) = signed_at(line, 6) else {
-        return EconLine::Malformed;
-    };
-    let Signed::Value(stage) = signed_at(line, 7) else {
-        return EconLine::Malformed;
-    };
-    EconLine::Row(EconomizerRow {
-        time,
-        outdoor_airflow_normalized: airflow,
-        minimum_outdoor_airflow_setpoint_normalized: setpoint,
-        supply_temperature_signal: signal,
-        outdoor_air_temperature: temperature,
-        supply_fan_status: fan,
-        operation_mode: mode,
-        freeze_protection_stage: stage,
-    })
 }
 
-// Writes the line of an accepted row: status 0 and the commands.
-fn write_commands(out: &mut [u8], at: usize, commands: EconomizerCommands) -> usize
-    requires { ⌜ at + 106 ≤ length (now out) ⌝ }
-    ensures { λ r. ⌜ Wrote (now (out .entry)) at (econCommandsLine commands) 106 (now (out .exit)) r ⌝ }
+// The words of an accepted row's answer: status 0 and the commands.
+fn command_words(commands: EconomizerCommands) -> Words
+    ensures { λ r. ⌜ r ≡ wordList (econCommandWords commands) ⌝ }
 {
-    let status = write_unsigned(out, at, 0);
-    let minimum = write_real(out, status, commands.outdoor_damper_min_limit);
-    let enabled = write_yes_no(out, minimum, commands.minimum_outdoor_air_loop_enabled);
-    let outdoor = write_real(out, enabled, commands.outdoor_damper_command);
-    let end = write_real(out, outdoor, commands.return_damper_command);
-    end_line(out, end)
+    Words {
+        count: 5,
+        words: [
+            0,
+            pattern(commands.outdoor_damper_min_limit),
+            yes_no_word(commands.minimum_outdoor_air_loop_enabled),
+            pattern(commands.outdoor_damper_command),
+            pattern(commands.return_damper_command),
+            0,
+            0,
+            0,
+            0,
+            0,
+            0,
+            0,
+        ],
+    }
 }
 
-// Writes the line of an answer.
-fn write_answer(out: &mut [u8], at: usize, answer: EconomizerAnswer) -> usize
-    requires { ⌜ at + 106 ≤ length (now out) ⌝ }
-    ensures { λ r. ⌜ Wrote (now (out .entry)) at (econAnswerLine answer) (length (econAnswerLine answer)) (now (out .exit)) r ⌝ }
+// The words of an answer.
+fn answer_words(answer: EconomizerAnswer) -> Words
+    ensures { λ r. ⌜ r ≡ wordList (econAnswerWords answer) ⌝ }
 {
     match answer {
-        EconomizerAnswer::Commands(commands) => write_commands(out, at, commands),
+        EconomizerAnswer::Commands(commands) => command_words(commands),
         EconomizerAnswer::Refused(refusal) => {
             let number = refusal.number();
-            write_status_line(out, at, number)
+            status_alone(number)
         }
     }
 }
 
-// The state after a line, and the place after its answer.
-pub struct EconSent {
+// The state after a row, and the words of its answer.
+pub struct EconStepped {
     pub state: EconomizerState,
-    pub at: usize,
+    pub answer: Words,
 }
 
-// Helper. Answers a line without its newline, in the bytes from `at` on.
-pub fn answer_econ(state: EconomizerState, line: &[u8], out: &mut [u8], at: usize) -> EconSent
-    requires { ⌜ at + 22 * (length (now line) + 1) ≤ length (now out) ⌝ }
-    ensures { λ r. ⌜ Answered (econAnswered state (now (line .entry))) (now (out .entry)) at (r .state) (now (out .exit)) (r .at) ⌝ }
+// A row by its words.
+pub fn econ_step(state: EconomizerState, words: [u64; 12]) -> EconStepped
+    ensures { λ r. ⌜ Stepped econKind state words (r .state) (r .answer) ⌝ }
 {
-    match econ_line(line) {
-        EconLine::Malformed => {
-            let next = write_status_line(out, at, 5);
-            EconSent { state, at: next }
-        }
-        EconLine::Row(row) => {
-            let step = economizer_row(state, row);
-            let answer = step.answer;
-            let following = step.state;
-            let next = write_answer(out, at, answer);
-            EconSent {
-                state: following,
-                at: next,
-            }
-        }
+    let row = econ_row_of(words);
+    let step = economizer_row(state, row);
+    let next = step.state;
+    let said = step.answer;
+    let answer = answer_words(said);
+    EconStepped {
+        state: next,
+        answer,
     }
-}
-
-// Answers the line made of the `had` bytes kept of it and of more bytes, in the bytes from `at` on. A line of which nothing is kept is not copied.
-fn turn_econ(
-    state: EconomizerState,
-    line: &mut [u8],
-    had: usize,
-    more: &[u8],
-    out: &mut [u8],
-    at: usize,
-) -> EconSent
-    requires { ⌜ (length (now line) ≡ 256) × (had ≤ 256) × (at + 22 * (had + length (now more) + 1) ≤ length (now out)) ⌝ }
-    ensures { λ r. ⌜ Answered (econAnswered state (take had (now (line .entry)) ++ now (more .entry))) (now (out .entry)) at (r .state) (now (out .exit)) (r .at) ⌝ }
-{
-    if had == 0 {
-        return answer_econ(state, more, out, at);
-    }
-    let len = keep(line, had, more);
-    answer_econ(state, &line[..len], out, at)
-}
-
-// The state after a chunk, the bytes kept of a line that has not ended, and the bytes to be written.
-pub struct EconFed {
-    pub state: EconomizerState,
-    pub len: usize,
-    pub sent: usize,
-}
-
-// Helper. Answers the lines that end in a chunk, after the `had` bytes kept of a line, and keeps the part of a line that is left.
-pub fn feed_econ(
-    chunk: &[u8],
-    line: &mut [u8],
-    out: &mut [u8],
-    start: EconomizerState,
-    had: usize,
-) -> EconFed
-    requires { ⌜ (length (now line) ≡ 256) × (had ≤ 256) × (22 * (256 + length (now chunk)) ≤ length (now out)) ⌝ }
-    ensures { λ r. ⌜ FedAs (feed econAnswered start (take had (now (line .entry))) (now (chunk .entry))) (r .state) (now (line .exit)) (r .len) (now (out .entry)) (now (out .exit)) (r .sent) ⌝ }
-{
-    let mut state = start;
-    let mut len = had;
-    let mut sent: usize = 0;
-    let mut i: usize = 0;
-    let mut j = line_end(chunk, 0);
-    while j < chunk.len() {
-        let answered = turn_econ(state, line, len, &chunk[i..j], out, sent);
-        let following = answered.state;
-        state = following;
-        sent = answered.at;
-        len = 0;
-        i = j + 1;
-        j = line_end(chunk, i);
-    }
-    len = keep(line, len, &chunk[i..]);
-    EconFed { state, len, sent }
 }

@@ -1,2 +1,2 @@
 // Economizer lines (document 01, 'Row lines').
-pub mod econ; // a line read as a row, a row answered by a line, and the lines of a chunk
+pub mod econ; // the columns of a row and of an answer, and a row by its words

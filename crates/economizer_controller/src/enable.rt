@@ -80,13 +80,12 @@ impl EnableState {
         let outdoor_delay = self.outdoor_delay;
         let return_delay = self.return_delay;
         let disabled = !signals.enabled;
-        self = EnableState {
+        EnableState {
             hysteresis: hysteresis.update(signals.dry_bulb_delta),
             hold: hold.update(t, signals.outdoor_air_condition),
             outdoor_delay: outdoor_delay.update(t, disabled, Self::OUTDOOR_DELAY),
             return_delay: return_delay.update(t, disabled, Self::RETURN_DELAY),
-        };
-        self
+        }
     }
 }
 

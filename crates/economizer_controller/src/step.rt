@@ -104,19 +104,19 @@ pub fn economizer_row(state: EconomizerState, row: EconomizerRow) -> EconomizerS
     ensures { λ r. ⌜ r ≡ economizerRow state row ⌝ }
 {
     let verdict = economizer_verdict(state, row);
-    match verdict {
+    // The old state stands until the row is accepted. A copy of its own in each case would make every row copy the unused bytes between the fields.
+    let mut next = state;
+    let answer = match verdict {
         Verdict::Accepted => {
             let signals = economizer_signals(state, row);
             let commands = economizer_commands(row, signals);
-            let next = economizer_next(state, row, signals);
-            EconomizerStep {
-                answer: EconomizerAnswer::Commands(commands),
-                state: next,
-            }
+            next = economizer_next(state, row, signals);
+            EconomizerAnswer::Commands(commands)
         }
-        Verdict::Refused(refusal) => EconomizerStep {
-            answer: EconomizerAnswer::Refused(refusal),
-            state,
-        },
+        Verdict::Refused(refusal) => EconomizerAnswer::Refused(refusal),
+    };
+    EconomizerStep {
+        answer,
+        state: next,
     }
 }

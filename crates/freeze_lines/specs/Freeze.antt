@@ -1,84 +1,115 @@
--- Freeze lines (document 01, 'Row lines'): time first, then the record's fields in order; the answer is the status and the outputs in the order of
--- `Trace`, or the status alone.
+-- Freeze protection's lines (document 01, 'Row lines'): time first, then the record's fields in order; the answer is the status and the outputs in the order of
+-- the Rust trace, or the status alone.
 use Prim.Native.Nat.{ℕ}
 use mathlib.Core.List.{List, [], _∷_}
-use mathlib.Core.Bool.{cond}
 use lib.Dec.{eqb}
-use lib.ListN.{length}
-use Rattle.row_lines.specs.Field.{unsignedColumn, yesNoColumn, realColumn, readYesNo, readReal}
-use Rattle.row_lines.specs.Line.{columnOf, joined, endOfLine, statusLine, realThen, yesNoThen}
+use lib.ListN.{getD}
+use lib.Ieee.{binary64, ofBits, toBits}
+use Rattle.columns.specs.Forms.{float, yesNo, unsigned}
+use Rattle.columns.specs.Word.{yesNoWord}
+use Rattle.line_stream.specs.Lines.{Answer}
+use Rattle.line_stream.specs.RowKind.{RowKind, RowLine, rowLine, lineAnswered}
 use Rattle.refusals.specs.Refusals.{refusalNumber}
+use Rattle.freeze_protection.specs.declared.types.FreezeRow.{FreezeRow}
 use Rattle.freeze_protection.specs.declared.types.FreezeState.{FreezeState}
 use Rattle.freeze_protection.specs.declared.types.FreezeCommands.{FreezeCommands}
 use Rattle.freeze_protection.specs.declared.types.FreezeAnswer.{FreezeAnswer}
 use Rattle.freeze_protection.specs.declared.types.FreezeAnswer.the-variants as answer
 use Rattle.freeze_protection.specs.Step.{freezeRow}
-use Rattle.lines.specs.Lines.{Answer}
-use Rattle.freeze_lines.specs.declared.freeze.FreezeLine.{FreezeLine}
-use Rattle.freeze_lines.specs.declared.freeze.FreezeLine.the-variants.{Row, Malformed}
 
--- the row of a line of twelve columns
-unfoldable pub freezeLine : List ℕ → FreezeLine
-freezeLine line =
-    cond (eqb (length line) 252)
-    (realThen Malformed (readReal (columnOf line 0)) (λ time.
-    realThen Malformed (readReal (columnOf line 1)) (λ position.
-    realThen Malformed (readReal (columnOf line 2)) (λ outdoor.
-    realThen Malformed (readReal (columnOf line 3)) (λ heating.
-    realThen Malformed (readReal (columnOf line 4)) (λ minimum.
-    realThen Malformed (readReal (columnOf line 5)) (λ returning.
-    realThen Malformed (readReal (columnOf line 6)) (λ supply.
-    yesNoThen Malformed (readYesNo (columnOf line 7)) (λ reset.
-    yesNoThen Malformed (readYesNo (columnOf line 8)) (λ fan.
-    realThen Malformed (readReal (columnOf line 9)) (λ speed.
-    realThen Malformed (readReal (columnOf line 10)) (λ cooling.
-    realThen Malformed (readReal (columnOf line 11)) (λ mixed.
-    Row (record {
-      time = time;
-      «outdoor_damper_min_position» = position;
-      «outdoor_damper» = outdoor;
-      «heating_coil» = heating;
-      «minimum_outdoor_damper» = minimum;
-      «return_damper» = returning;
-      «supply_air_temperature» = supply;
-      «software_reset» = reset;
-      «supply_fan_status» = fan;
-      «supply_fan_speed» = speed;
-      «cooling_coil» = cooling;
-      «mixed_air_temperature» = mixed;
-    }))))))))))))))
-    Malformed
+-- ---- a row
 
--- the line of an accepted row: status 0, the commands, and its end
-abbrev pub freezeColumns : FreezeCommands → List (List ℕ)
-freezeColumns commands =
-    unsignedColumn 0
-    ∷ unsignedColumn (commands .«freeze_protection_stage»)
-    ∷ yesNoColumn (commands .«chilled_water_pump_enable»)
-    ∷ realColumn (commands .«return_damper_command»)
-    ∷ realColumn (commands .«outdoor_damper_command»)
-    ∷ realColumn (commands .«minimum_outdoor_damper_command»)
-    ∷ yesNoColumn (commands .«supply_fan_status»)
-    ∷ realColumn (commands .«supply_fan_speed»)
-    ∷ realColumn (commands .«cooling_coil_command»)
-    ∷ realColumn (commands .«heating_coil_command»)
-    ∷ unsignedColumn (commands .«hot_water_plant_request»)
-    ∷ unsignedColumn (commands .«alarm_level»)
-    ∷ endOfLine
+-- its columns: the form of each, and the field that it holds
+abbrev pub freezeRowForms : List ℕ
+freezeRowForms =
+    float  -- time
+    ∷ float  -- outdoor_damper_min_position
+    ∷ float  -- outdoor_damper
+    ∷ float  -- heating_coil
+    ∷ float  -- minimum_outdoor_damper
+    ∷ float  -- return_damper
+    ∷ float  -- supply_air_temperature
+    ∷ yesNo  -- software_reset
+    ∷ yesNo  -- supply_fan_status
+    ∷ float  -- supply_fan_speed
+    ∷ float  -- cooling_coil
+    ∷ float  -- mixed_air_temperature
     ∷ []
 
-unfoldable pub freezeCommandsLine : FreezeCommands → List ℕ
-freezeCommandsLine commands = joined (freezeColumns commands)
+-- the row of their words
+unfoldable pub freezeRowOf : List ℕ → FreezeRow
+freezeRowOf words = record {
+  time = ofBits binary64 (getD words 0 0);
+  «outdoor_damper_min_position» = ofBits binary64 (getD words 1 0);
+  «outdoor_damper» = ofBits binary64 (getD words 2 0);
+  «heating_coil» = ofBits binary64 (getD words 3 0);
+  «minimum_outdoor_damper» = ofBits binary64 (getD words 4 0);
+  «return_damper» = ofBits binary64 (getD words 5 0);
+  «supply_air_temperature» = ofBits binary64 (getD words 6 0);
+  «software_reset» = eqb (getD words 7 0) 1;
+  «supply_fan_status» = eqb (getD words 8 0) 1;
+  «supply_fan_speed» = ofBits binary64 (getD words 9 0);
+  «cooling_coil» = ofBits binary64 (getD words 10 0);
+  «mixed_air_temperature» = ofBits binary64 (getD words 11 0);
+}
 
--- the line of an answer
-unfoldable pub freezeAnswerLine : FreezeAnswer → List ℕ
-freezeAnswerLine (answer.Commands commands) = freezeCommandsLine commands
-freezeAnswerLine (answer.Refused refusal) = statusLine (refusalNumber refusal)
+-- ---- an answer
 
--- a line that is read answered: the row's answer and the next state; 5, and the state as it was, where the line is badly formed
-unfoldable pub freezeAnswer : FreezeState → FreezeLine → Answer FreezeState
-freezeAnswer state Malformed = record { next = state; said = statusLine 5 }
-freezeAnswer state (Row row) = let step = freezeRow state row in record { next = step .state; said = freezeAnswerLine (step .answer) }
+-- its columns
+abbrev pub freezeAnswerForms : List ℕ
+freezeAnswerForms =
+    unsigned  -- status
+    ∷ unsigned  -- freeze_protection_stage
+    ∷ yesNo  -- chilled_water_pump_enable
+    ∷ float  -- return_damper_command
+    ∷ float  -- outdoor_damper_command
+    ∷ float  -- minimum_outdoor_damper_command
+    ∷ yesNo  -- supply_fan_status
+    ∷ float  -- supply_fan_speed
+    ∷ float  -- cooling_coil_command
+    ∷ float  -- heating_coil_command
+    ∷ unsigned  -- hot_water_plant_request
+    ∷ unsigned  -- alarm_level
+    ∷ []
 
-unfoldable pub freezeAnswered : FreezeState → List ℕ → Answer FreezeState
-freezeAnswered state line = freezeAnswer state (freezeLine line)
+-- the words of an accepted row's: status 0, and the commands
+unfoldable pub freezeCommandWords : FreezeCommands → List ℕ
+freezeCommandWords commands =
+    0
+    ∷ commands .«freeze_protection_stage»
+    ∷ yesNoWord (commands .«chilled_water_pump_enable»)
+    ∷ toBits binary64 (commands .«return_damper_command»)
+    ∷ toBits binary64 (commands .«outdoor_damper_command»)
+    ∷ toBits binary64 (commands .«minimum_outdoor_damper_command»)
+    ∷ yesNoWord (commands .«supply_fan_status»)
+    ∷ toBits binary64 (commands .«supply_fan_speed»)
+    ∷ toBits binary64 (commands .«cooling_coil_command»)
+    ∷ toBits binary64 (commands .«heating_coil_command»)
+    ∷ commands .«hot_water_plant_request»
+    ∷ commands .«alarm_level»
+    ∷ []
+
+-- the words of an answer: the number of a refusal alone
+unfoldable pub freezeAnswerWords : FreezeAnswer → List ℕ
+freezeAnswerWords (answer.Commands commands) = freezeCommandWords commands
+freezeAnswerWords (answer.Refused refusal) = refusalNumber refusal ∷ []
+
+-- ---- the kind
+
+abbrev pub freezeKind : RowKind FreezeState FreezeRow FreezeAnswer
+freezeKind = record {
+  rowForms = freezeRowForms;
+  rowOf = freezeRowOf;
+  next = λ state row. freezeRow state row .state;
+  answer = λ state row. freezeRow state row .answer;
+  answerForms = freezeAnswerForms;
+  answerWords = freezeAnswerWords;
+}
+
+-- the row of a line
+abbrev pub freezeLine : List ℕ → RowLine FreezeRow
+freezeLine = rowLine freezeKind
+
+-- a line answered: the row's answer and the next state
+abbrev pub freezeAnswered : FreezeState → List ℕ → Answer FreezeState
+freezeAnswered = lineAnswered freezeKind

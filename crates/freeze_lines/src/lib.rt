@@ -1,2 +1,2 @@
 // Freeze lines (document 01, 'Row lines').
-pub mod freeze; // a line read as a row, a row answered by a line, and the lines of a chunk
+pub mod freeze; // the columns of a row and of an answer, and a row by its words

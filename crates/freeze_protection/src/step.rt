@@ -108,19 +108,19 @@ pub fn freeze_row(state: FreezeState, row: FreezeRow) -> FreezeStep
     ensures { λ r. ⌜ r ≡ freezeRow state row ⌝ }
 {
     let verdict = freeze_verdict(state, row);
-    match verdict {
+    // The old state stands until the row is accepted. A copy of its own in each case would make every row copy the unused bytes between the fields.
+    let mut next = state;
+    let answer = match verdict {
         Verdict::Accepted => {
             let signals = freeze_signals(state, row);
             let commands = freeze_commands(row, signals);
-            let next = freeze_next(state, row, signals);
-            FreezeStep {
-                answer: FreezeAnswer::Commands(commands),
-                state: next,
-            }
+            next = freeze_next(state, row, signals);
+            FreezeAnswer::Commands(commands)
         }
-        Verdict::Refused(refusal) => FreezeStep {
-            answer: FreezeAnswer::Refused(refusal),
-            state,
-        },
+        Verdict::Refused(refusal) => FreezeAnswer::Refused(refusal),
+    };
+    FreezeStep {
+        answer,
+        state: next,
     }
 }

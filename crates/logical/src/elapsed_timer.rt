@@ -33,10 +33,9 @@ impl ElapsedTimerState {
     {
         let before = self.entry_time;
         let entry = entry_time(before, self.prev_u, t, u);
-        self = ElapsedTimerState {
+        ElapsedTimerState {
             entry_time: entry,
             prev_u: u,
-        };
-        self
+        }
     }
 }

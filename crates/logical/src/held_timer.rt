@@ -49,12 +49,11 @@ impl HeldTimerState {
         let before = self.entry_time;
         let entry = entry_time(before, self.prev_u, t, u);
         let output = self.output(t, u);
-        self = HeldTimerState {
+        HeldTimerState {
             threshold,
             entry_time: entry,
             prev_u: u,
             passed: output.passed,
-        };
-        self
+        }
     }
 }

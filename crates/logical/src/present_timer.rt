@@ -40,11 +40,10 @@ impl PresentTimerState {
         let threshold = self.threshold;
         let before = self.entry_time;
         let entry = entry_time(before, self.prev_u, t, u);
-        self = PresentTimerState {
+        PresentTimerState {
             threshold,
             entry_time: entry,
             prev_u: u,
-        };
-        self
+        }
     }
 }

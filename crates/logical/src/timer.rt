@@ -15,10 +15,14 @@ pub fn entry_time(entry: Seen, prev_u: bool, t: f64, u: bool) -> Seen
     if !u {
         return Seen::Never;
     }
-    if prev_u {
-        return entry;
+    if !prev_u {
+        return Seen::At(t);
     }
-    Seen::At(t)
+    // The time that is kept, made anew: `entry` itself would hand on the unused bytes beside its mark too.
+    match entry {
+        Seen::Never => Seen::Never,
+        Seen::At(p) => Seen::At(p),
+    }
 }
 
 // The time since the input became true; 0 where it is false or has just risen.

@@ -47,12 +47,11 @@ impl TrueDelayState {
     {
         let output = self.output(t, u, delay);
         let timer = self.next_timer(t, u);
-        self = TrueDelayState {
+        TrueDelayState {
             previous_time: Seen::At(t),
             previous_input: u,
             held_output: output,
             timer: switch(output, delay, timer),
-        };
-        self
+        }
     }
 }

@@ -35,11 +35,10 @@ impl TrueDelayOnInitState {
         let delay_time = self.delay_time;
         let before = self.entry_time;
         let entry = entry_time(before, self.previous_u, t, u);
-        self = TrueDelayOnInitState {
+        TrueDelayOnInitState {
             delay_time,
             entry_time: entry,
             previous_u: u,
-        };
-        self
+        }
     }
 }

@@ -61,13 +61,12 @@ impl TrueFalseHoldState {
         let true_hold_duration = self.true_hold_duration;
         let false_hold_duration = self.false_hold_duration;
         let next = self.output_and_timer(t, u);
-        self = TrueFalseHoldState {
+        TrueFalseHoldState {
             held: next.y,
             timer: next.timer,
             prev_t: Seen::At(t),
             true_hold_duration,
             false_hold_duration,
-        };
-        self
+        }
     }
 }

@@ -66,7 +66,12 @@ impl ThresholdState {
         ensures { λ r. ⌜ r ≡ thresholdUpdate self input ⌝ }
     {
         let y = self.output(input);
-        self.previous = y;
-        self
+        let mode = self.mode;
+        ThresholdState {
+            threshold: self.threshold,
+            hysteresis: self.hysteresis,
+            previous: y,
+            mode,
+        }
     }
 }

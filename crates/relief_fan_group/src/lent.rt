@@ -35,23 +35,23 @@ pub fn relief_row_lent(
     let pressure = row.pressure;
     let full = integrator.is_full(times, time);
     let verdict = relief_verdict(blocks, row, full);
-    match verdict {
+    // The old blocks stand until the row is accepted. A copy of its own in each case would make every row copy the unused bytes between the fields.
+    let mut stored = integrator;
+    let mut next = blocks;
+    let answer = match verdict {
         Verdict::Accepted => {
             let average = integrator.output(times, integrals, time, pressure);
             let signals = relief_signals(blocks, row, average);
             let commands = relief_commands(row, signals);
-            let stored = integrator.update(times, integrals, time, pressure);
-            let next = relief_next(blocks, row, signals);
-            LentStep {
-                answer: ReliefAnswer::Commands(commands),
-                integrator: stored,
-                blocks: next,
-            }
+            stored = integrator.update(times, integrals, time, pressure);
+            next = relief_next(blocks, row, signals);
+            ReliefAnswer::Commands(commands)
         }
-        Verdict::Refused(refusal) => LentStep {
-            answer: ReliefAnswer::Refused(refusal),
-            integrator,
-            blocks,
-        },
+        Verdict::Refused(refusal) => ReliefAnswer::Refused(refusal),
+    };
+    LentStep {
+        answer,
+        integrator: stored,
+        blocks: next,
     }
 }

@@ -5,5 +5,4 @@ pub mod verdict; // what a row is refused for
 pub mod signals; // every block's output at a row
 pub mod commands; // the outputs, worked from the signals
 pub mod step; // a fresh state, the next state, and the row itself
-pub mod anew; // the blocks as they are, made anew from their fields
 pub mod lent; // the row on a window whose arrays are lent, without a copy

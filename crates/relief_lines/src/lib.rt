@@ -1,2 +1,2 @@
-// Relief lines (document 01, 'Row lines'): bytes in, bytes out.
-pub mod relief; // a line, its answer, and the lines of a chunk
+// Relief lines (document 01, 'Row lines').
+pub mod relief; // the columns of a row and of an answer, and a row by its words

@@ -1,5 +1,6 @@
 // Blocks on their own, on cases of document 01: a line for each case, with the block's output at each row, 1 for true and 0 for false.
 // The file stdout holds what the blocks of the Rust give on the same rows (compare/stored).
+use columns::word::pattern;
 use libc::STDOUT_FILENO;
 use logical::elapsed_timer::ElapsedTimerState;
 use logical::held_timer::HeldTimerState;
@@ -11,7 +12,6 @@ use reals::hysteresis::HysteresisState;
 use reals::kept_hysteresis::KeptHysteresisState;
 use reals::pid::PidState;
 use reals::threshold::ThresholdState;
-use row_lines::pattern::pattern;
 
 fn print(y: bool) {
     if y {

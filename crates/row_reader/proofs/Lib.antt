@@ -1,5 +1,3 @@
 -- The laws that the proofs cite.
-pub mod Words
-pub mod Reading
-pub mod Feeding
-pub mod RowFeeding
+pub mod Phases
+pub mod Ending

@@ -1,21 +1,24 @@
 // Reads a row file from standard input and writes its answers to standard output (document 01, 'Row lines'). What came is answered and written
 // before more is read, so it serves a pipe. Where reading or writing fails it says so on standard error, and stops: it has no exit status to say it with.
 ghost use mathlib.Core.Path.{_≡_};
-ghost use Prim.Native.Nat.{_+_, _*_, _≤_};
+ghost use Prim.Native.Nat.{_≤_};
 ghost use lib.ListN.{length};
+ghost use Rattle.row_kinds.specs.Rows.{Lent};
+ghost use Rattle.rows.specs.Turns.{TurnLeft};
 use libc::STDERR_FILENO;
 use libc::STDIN_FILENO;
 use libc::STDOUT_FILENO;
-use row_reader::chunk::fresh_at;
+use row_kinds::kind::Phase;
+use row_kinds::types::RowReader;
+use row_kinds::types::fresh_at;
 use row_reader::feed::feed;
 use row_reader::feed::finish;
-use row_reader::types::Phase;
-use row_reader::types::RowReader;
 
-// The reader after a turn, the bytes kept of a line, and whether there is a next turn.
+// The reader after a turn, the bytes kept of a line, whether all answers were written, and whether there is a next turn.
 struct Turned {
     reader: RowReader,
     len: usize,
+    written: bool,
     more: bool,
 }
 
@@ -58,8 +61,9 @@ fn turn(
     reader: RowReader,
     had: usize,
 ) -> Turned
-    requires { ⌜ (length (now line) ≡ 256) × (had ≤ 256) × (22 * (256 + length (now buffer)) ≤ length (now out)) × (length (now times) ≡ 512) × (length (now integrals) ≡ 512) ⌝ }
-    ensures { λ r. ⌜ (r .len ≤ 256) × (length (now (times .exit)) ≡ 512) × (length (now (integrals .exit)) ≡ 512) ⌝ }
+    requires { ⌜ Lent (now buffer) (now line) had (now out) (now times) (now integrals) ⌝ }
+    ensures { λ r. ⌜ TurnLeft (r .reader) (r .len) (r .written) (r .more) (now (times .exit))
+        (now (integrals .exit)) ⌝ }
 {
     let got = libc::read(STDIN_FILENO, buffer);
     let n = io::count(got, buffer);
@@ -68,6 +72,7 @@ fn turn(
         return Turned {
             reader,
             len: had,
+            written: true,
             more: false,
         };
     }
@@ -80,6 +85,7 @@ fn turn(
     Turned {
         reader: next,
         len: fed.len,
+        written,
         more: written & !stopped,
     }
 }
@@ -92,7 +98,7 @@ fn play(
     times: &mut [f64; 512],
     integrals: &mut [f64; 512],
 )
-    requires { ⌜ (length (now line) ≡ 256) × (22 * (256 + length (now buffer)) ≤ length (now out)) × (length (now times) ≡ 512) × (length (now integrals) ≡ 512) ⌝ }
+    requires { ⌜ Lent (now buffer) (now line) 0 (now out) (now times) (now integrals) ⌝ }
 {
     let mut reader = fresh_at(Phase::First);
     let mut len: usize = 0;
@@ -109,17 +115,17 @@ fn play(
 }
 
 // The bytes read at a time.
-fn input_buffer() -> [u8; 32768]
-    ensures { λ r. ⌜ 32768 ≡ length r ⌝ }
+fn input_buffer() -> [u8; 8192]
+    ensures { λ r. ⌜ 8192 ≡ length r ⌝ }
 {
-    [0; 32768]
+    [0; 8192]
 }
 
 // Room for the answers to a chunk: an answer has at most 22 bytes for each byte of its line, newline included, and 256 bytes of a line may have been kept before.
-fn output_buffer() -> [u8; 726528]
-    ensures { λ r. ⌜ 726528 ≡ length r ⌝ }
+fn output_buffer() -> [u8; 185856]
+    ensures { λ r. ⌜ 185856 ≡ length r ⌝ }
 {
-    [0; 726528]
+    [0; 185856]
 }
 
 fn main() {

@@ -1,17 +1,18 @@
 -- The words of a state stand for the state. Assumes nothing.
 use mathlib.Core.Path.{_≡_, refl}
 use mathlib.Core.List.{List, [], _∷_, map}
-use Rattle.row_reader.specs.declared.types.Phase.{Phase}
-use Rattle.row_reader.specs.declared.types.Phase.the-variants.{First, Freeze, Relief, Econ, Stopped}
+use Rattle.row_kinds.specs.declared.kind.Kind.the-variants.{Freeze, Relief, Econ}
+use Rattle.row_kinds.specs.declared.kind.Phase.{Phase}
+use Rattle.row_kinds.specs.declared.kind.Phase.the-variants.{First, Rows, Stopped}
 use Rattle.state_words.specs.Threshold.{thresholdWords, thresholdOf}
 use Rattle.state_words.specs.TrueDelayOnInit.{trueDelayOnInitWords, trueDelayOnInitOf}
-use Rattle.state_words.specs.Reader.{phaseWord, wordPhase}
+use Rattle.state_words.specs.Reader.{kindWord, phaseWord, wordPhase}
 use Rattle.state_words.proofs.BlocksBack.{flag-back, seen-back, threshold-back, pid-back, pid-with-reset-back, latch-back, held-timer-back, present-timer-back, true-false-hold-back, true-delay-back, true-delay-on-init-back, integrator-back}
 use Rattle.freeze_protection.specs.declared.types.FreezeState.{FreezeState}
 use Rattle.economizer_controller.specs.declared.enable.EnableState.{EnableState}
 use Rattle.economizer_controller.specs.declared.types.EconomizerState.{EconomizerState}
 use Rattle.relief_fan_group.specs.declared.types.ReliefBlocks.{ReliefBlocks}
-use Rattle.row_reader.specs.declared.types.RowReader.{RowReader}
+use Rattle.row_kinds.specs.declared.types.RowReader.{RowReader}
 use Rattle.state_words.specs.Freeze.{freezeOf, freezeWords}
 use Rattle.state_words.specs.Enable.{enableOf, enableWords}
 use Rattle.state_words.specs.Economizer.{economizerOf, economizerWords}
@@ -19,11 +20,11 @@ use Rattle.state_words.specs.Relief.{reliefOf, reliefWords}
 use Rattle.state_words.specs.Reader.{readerOf, readerWords}
 
 phase-back : (p : Phase) → wordPhase (phaseWord p) ≡ p
-unfolding wordPhase phaseWord
+unfolding wordPhase phaseWord kindWord
 phase-back First = refl
-phase-back Freeze = refl
-phase-back Relief = refl
-phase-back Econ = refl
+phase-back (Rows Freeze) = refl
+phase-back (Rows Relief) = refl
+phase-back (Rows Econ) = refl
 phase-back Stopped = refl
 
 -- element by element

@@ -1,21 +1,30 @@
 // `RowReader` as words.
 ghost use mathlib.Core.Path.{_≡_};
-ghost use Rattle.state_words.specs.Reader.{phaseWord, wordPhase, readerWords, readerOf};
+ghost use Rattle.state_words.specs.Reader.{kindWord, phaseWord, wordPhase, readerWords, readerOf};
 use crate::economizer::EconomizerWords;
 use crate::freeze::FreezeWords;
 use crate::integrator::IntegratorWords;
 use crate::relief::ReliefWords;
-use row_reader::types::Phase;
-use row_reader::types::RowReader;
+use row_kinds::kind::Kind;
+use row_kinds::kind::Phase;
+use row_kinds::types::RowReader;
+
+fn kind_word(kind: Kind) -> u64
+    ensures { λ r. ⌜ r ≡ kindWord kind ⌝ }
+{
+    match kind {
+        Kind::Freeze => 1,
+        Kind::Relief => 2,
+        Kind::Econ => 3,
+    }
+}
 
 pub fn phase_word(phase: Phase) -> u64
     ensures { λ r. ⌜ r ≡ phaseWord phase ⌝ }
 {
     match phase {
         Phase::First => 0,
-        Phase::Freeze => 1,
-        Phase::Relief => 2,
-        Phase::Econ => 3,
+        Phase::Rows(kind) => kind_word(kind),
         Phase::Stopped => 4,
     }
 }
@@ -28,13 +37,13 @@ pub fn word_phase(word: u64) -> Phase
         return Phase::First;
     }
     if word == 1 {
-        return Phase::Freeze;
+        return Phase::Rows(Kind::Freeze);
     }
     if word == 2 {
-        return Phase::Relief;
+        return Phase::Rows(Kind::Relief);
     }
     if word == 3 {
-        return Phase::Econ;
+        return Phase::Rows(Kind::Econ);
     }
     Phase::Stopped
 }

@@ -3,43 +3,38 @@ use Prim.Native.Nat.{ℕ}
 use mathlib.Core.Path.{_≡_, refl, sym, ap, _∙_}
 use mathlib.Core.List.{List, [], _∷_, _++_}
 use lib.ListN.{take}
-use Rattle.lines.specs.Lines.{Fed, whole, cut}
-use Rattle.freeze_protection.specs.Step.{freezeFresh}
-use Rattle.economizer_controller.specs.Step.{economizerFresh}
-use Rattle.relief_fan_group.specs.Step.{reliefFresh}
-use Rattle.freeze_lines.specs.Freeze.{freezeAnswered}
-use Rattle.relief_lines.specs.Relief.{reliefAnswered}
-use Rattle.econ_lines.specs.Econ.{econAnswered}
-use Rattle.row_reader.specs.declared.types.Phase.the-variants as phase
-use Rattle.row_reader.specs.Reader.{First, readerEnding, readerChunks, readerWritten}
-use Rattle.row_reader.specs.Rows.{Rows, rowsFeed, rowsOutput, freshAt}
-use Rattle.row_reader.proofs.RowFeeding.{fresh-rows, rows-any-cutting}
+use Rattle.line_stream.specs.Lines.{Fed, whole, chunkwise, written}
+use Rattle.row_kinds.specs.declared.kind.Phase.the-variants as phase
+use Rattle.row_kinds.specs.Reader.{First, readerEnding, readerKept, readerWritten}
+use Rattle.row_kinds.specs.Rows.{Rows, rowsLine, rowsFeed, rowsOutput, rowsIn, freshAt}
+use Rattle.row_reader.proofs.Phases.{fresh-first}
+use Rattle.row_kinds.proofs.Sequences.{rows-any-cutting}
 use Rattle.state_words.specs.Reader.{readerOf}
 use Rattle.state_words.proofs.StatesBack.{reader-back}
 use Rattle.woldgrater.specs.declared.chunks.State.{State}
 use Rattle.woldgrater.proofs.Playing.{wrote-taken}
-use Rattle.woldgrater.specs.Chunks.{Memory, started, rowsIn, partIn, Call, Calls, memoryAfter, fedBy, sentBy, EndedBy}
+use Rattle.woldgrater.specs.Chunks.{Memory, started, readerIn, partIn, Call, Calls, memoryAfter, fedBy, sentBy, EndedBy}
 
 -- chunk after chunk, as `rowsWritten` goes
 abbrev chunks : Rows → List ℕ → List (List ℕ) → Fed Rows
-chunks = readerChunks freezeFresh reliefFresh economizerFresh freezeAnswered reliefAnswered econAnswered
+chunks = chunkwise rowsLine readerKept
 
 -- where calls stand after a memory
 abbrev called : Memory → List Call → Fed Rows
-called m calls = record { next = rowsIn (memoryAfter m calls); part = partIn (memoryAfter m calls .state) (memoryAfter m calls .line); said = sentBy calls }
+called m calls = record { next = rowsIn (readerIn (memoryAfter m calls)); part = partIn (memoryAfter m calls .state) (memoryAfter m calls .line); said = sentBy calls }
 
-calls-are-chunks : (m : Memory) (calls : List Call) → Calls m calls → chunks (rowsIn m) (partIn (m .state) (m .line)) (fedBy calls) ≡ called m calls
-unfolding readerChunks
+calls-are-chunks : (m : Memory) (calls : List Call) → Calls m calls → chunks (rowsIn (readerIn m)) (partIn (m .state) (m .line)) (fedBy calls) ≡ called m calls
+unfolding chunkwise
 calls-are-chunks m [] h = refl
 calls-are-chunks m (c ∷ calls) h =
-    let f = rowsFeed (rowsIn m) (partIn (m .state) (m .line)) (c .chunk) in
-    let rest : chunks (f .next) (cut (f .part)) (fedBy calls) ≡ called (c .next) calls = (λ i. chunks (sym (h .0 .state) i) (sym (h .0 .part) i) (fedBy calls)) ∙ calls-are-chunks (c .next) calls (h .1) in
-    λ i. record { next = rest i .next; part = rest i .part; said = sym (h .0 .said) i ++ rest i .said }
+    let f = rowsFeed (rowsIn (readerIn m)) (partIn (m .state) (m .line)) (c .chunk) in
+    let rest : chunks (f .next) (readerKept (f .next) (f .part)) (fedBy calls) ≡ called (c .next) calls = (λ i. chunks (sym (h .0 .fed .state) i) (sym (h .0 .fed .part) i) (fedBy calls)) ∙ calls-are-chunks (c .next) calls (h .1) in
+    λ i. record { next = rest i .next; part = rest i .part; said = sym (h .0 .fed .said) i ++ rest i .said }
 
 -- the reader of a started memory is before the first line
-started-first : (m : Memory) → m .state ≡ started → rowsIn m ≡ First
+started-first : (m : Memory) → m .state ≡ started → rowsIn (readerIn m) ≡ First
 unfolding started
-started-first m e = fresh-rows _ phase.First (m .times) (m .integrals) (ap (λ (s : State). readerOf (s .reader)) e ∙ reader-back (freshAt phase.First))
+started-first m e = fresh-first _ (m .times) (m .integrals) (ap (λ (s : State). readerOf (s .reader)) e ∙ reader-back (freshAt phase.First))
 
 started-part : (m : Memory) → m .state ≡ started → partIn (m .state) (m .line) ≡ []
 unfolding started
@@ -48,7 +43,7 @@ started-part m e = ap (λ (s : State). partIn s (m .line)) e
 -- a file started, fed in chunks and ended
 pub file-fed : (m : Memory) → m .state ≡ started → (calls : List Call) → Calls m calls → (out after : List ℕ) (r : ℕ) → EndedBy (memoryAfter m calls .state) (memoryAfter m calls .line) out after r
     → sentBy calls ++ take r after ≡ rowsOutput (whole (fedBy calls))
-unfolding readerWritten
+unfolding readerWritten written
 file-fed m e calls h out after r w =
     let last = memoryAfter m calls in
     let f = chunks First [] (fedBy calls) in

@@ -10,31 +10,32 @@ use lib.Dec.{leb}
 use lib.Ieee.{Float}
 use lib.Seq.{length-take-le, take-append-le, drop-append-le, drop-drop, take-at}
 use borrow.Author.Tests.{leb-true, leb-false}
-use Rattle.row_lines.specs.Column.{Wrote}
-use Rattle.lines.specs.Lines.{Fed, FedAs, cut}
-use Rattle.row_reader.specs.declared.types.Phase.the-variants as phase
-use Rattle.row_reader.specs.declared.types.RowReader.{RowReader}
-use Rattle.row_reader.specs.Reader.{First, readerEnding, readerChunks, readerWritten}
-use Rattle.row_reader.specs.Rows.{Rows, rowsOf, rowsFeed, rowsOutput, freshAt, Finished}
-use Rattle.row_reader.proofs.RowFeeding.{fresh-rows, rows-any-cutting}
+use Rattle.columns.specs.Column.{Wrote}
+use Rattle.line_stream.specs.Lines.{Fed, FedAs, chunkwise, written}
+use Rattle.row_kinds.specs.declared.kind.Phase.the-variants as phase
+use Rattle.row_kinds.specs.declared.types.RowReader.{RowReader}
+use Rattle.row_kinds.specs.Reader.{First, readerEnding, readerKept, readerWritten}
+use Rattle.row_kinds.specs.Rows.{Rows, carried, rowsIn, rowsFeed, rowsOutput, freshAt, Finished}
+use Rattle.row_reader.proofs.Phases.{fresh-first}
+use Rattle.row_kinds.proofs.Sequences.{rows-any-cutting}
 use Rattle.woldgrater.specs.Play.{room, Played}
 
-one-chunk : (rows : List ℕ) → (rowsFeed First [] rows .said ++ []) ++ readerEnding (rowsFeed First [] rows .next) (cut (rowsFeed First [] rows .part)) ≡ rowsOutput (rows ++ [])
-unfolding readerChunks readerWritten
+one-chunk : (rows : List ℕ) → (rowsFeed First [] rows .said ++ []) ++ readerEnding (rowsFeed First [] rows .next) (readerKept (rowsFeed First [] rows .next) (rowsFeed First [] rows .part)) ≡ rowsOutput (rows ++ [])
+unfolding readerWritten written chunkwise
 one-chunk rows = rows-any-cutting (rows ∷ [])
 
 -- what a fresh reader says of a whole row file
 pub whole-said : (reader : RowReader) → reader ≡ freshAt phase.First → (times integrals : List Float) (rows : List ℕ) (q : Rows) (line : List ℕ) (len : ℕ) (before out : List ℕ) (sent : ℕ)
-    → FedAs (rowsFeed (rowsOf reader times integrals) [] rows) q line len before out sent
+    → FedAs readerKept (rowsFeed (rowsIn (carried reader times integrals)) [] rows) q line len before out sent
     → take sent out ++ readerEnding q (take len line) ≡ rowsOutput rows
 whole-said reader e times integrals rows q line len before out sent h =
     let f = rowsFeed First [] rows in
-    let g : rowsFeed (rowsOf reader times integrals) [] rows ≡ f = ap (λ (x : Rows). rowsFeed x [] rows) (fresh-rows reader phase.First times integrals e) in
+    let g : rowsFeed (rowsIn (carried reader times integrals)) [] rows ≡ f = ap (λ (x : Rows). rowsFeed x [] rows) (fresh-first reader times integrals e) in
     ap (λ (x : List ℕ). x ++ readerEnding q (take len line)) (h .said)
-    ∙ ap (λ (x : Rows). rowsFeed (rowsOf reader times integrals) [] rows .said ++ readerEnding x (take len line)) (h .state)
-    ∙ ap (λ (x : List ℕ). rowsFeed (rowsOf reader times integrals) [] rows .said ++ readerEnding (rowsFeed (rowsOf reader times integrals) [] rows .next) x) (h .part)
-    ∙ ap (λ (x : Fed Rows). x .said ++ readerEnding (x .next) (cut (x .part))) g
-    ∙ ap (λ (x : List ℕ). x ++ readerEnding (f .next) (cut (f .part))) (sym (append-nil (f .said)))
+    ∙ ap (λ (x : Rows). rowsFeed (rowsIn (carried reader times integrals)) [] rows .said ++ readerEnding x (take len line)) (h .state)
+    ∙ ap (λ (x : List ℕ). rowsFeed (rowsIn (carried reader times integrals)) [] rows .said ++ readerEnding (rowsFeed (rowsIn (carried reader times integrals)) [] rows .next) x) (h .part)
+    ∙ ap (λ (x : Fed Rows). x .said ++ readerEnding (x .next) (readerKept (x .next) (x .part))) g
+    ∙ ap (λ (x : List ℕ). x ++ readerEnding (f .next) (readerKept (f .next) (f .part))) (sym (append-nil (f .said)))
     ∙ one-chunk rows
     ∙ ap rowsOutput (append-nil rows)
 
@@ -55,14 +56,14 @@ module _ (first more : List ℕ) (sent : ℕ) (fits : sent ≤ length first) whe
 -- a row file fed to a fresh reader, and the end after it in the part of the output that is left
 pub played : (reader last : RowReader) → reader ≡ freshAt phase.First → (times integrals times′ integrals′ : List Float) (rows line : List ℕ) (len : ℕ)
     (out before first more rest after tail : List ℕ) (sent n : ℕ) → before ++ more ≡ out
-    → FedAs (rowsFeed (rowsOf reader times integrals) [] rows) (rowsOf last times′ integrals′) line len before first sent
+    → FedAs readerKept (rowsFeed (rowsIn (carried reader times integrals)) [] rows) (rowsIn (carried last times′ integrals′)) line len before first sent
     → length first ≡ length before → rest ++ tail ≡ drop sent (first ++ more) → n ≤ length rest
     → Finished last (take len line) rest after n
     → Played rows out (take sent (first ++ more) ++ (after ++ tail)) (sent + n)
 played reader last e times integrals times′ integrals′ rows line len out before first more rest after tail sent n split h same left fits w =
     let v = w times′ integrals′ in
-    let said : List ℕ = readerEnding (rowsOf last times′ integrals′) (take len line) in
-    let s : take sent first ++ said ≡ rowsOutput rows = whole-said reader e times integrals rows (rowsOf last times′ integrals′) line len before first sent h in
+    let said : List ℕ = readerEnding (rowsIn (carried last times′ integrals′)) (take len line) in
+    let s : take sent first ++ said ≡ rowsOutput rows = whole-said reader e times integrals rows (rowsIn (carried last times′ integrals′)) line len before first sent h in
     let long : sent + n ≡ length (rowsOutput rows) =
     sym (ap length (sym s) ∙ length-append (take sent first) said ∙ ap (λ (x : ℕ). x + length said) (length-take-le sent first (h .said-fits)) ∙ ap (λ (x : ℕ). sent + x) (v .long)) in
     let end : sent + (0 + length said) ≡ 0 + length (rowsOutput rows) = omega (arith, v .long, long) in

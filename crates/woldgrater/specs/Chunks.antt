@@ -4,11 +4,12 @@ use mathlib.Core.Path.{_≡_}
 use mathlib.Core.List.{List, [], _∷_, map}
 use lib.ListN.{length, take}
 use lib.Ieee.{Float}
-use Rattle.row_lines.specs.Column.{Wrote}
-use Rattle.lines.specs.Lines.{FedAs, whole}
-use Rattle.row_reader.specs.declared.types.Phase.the-variants as phase
-use Rattle.row_reader.specs.Reader.{readerEnding}
-use Rattle.row_reader.specs.Rows.{Rows, rowsOf, rowsFeed, freshAt}
+use Rattle.columns.specs.Column.{Wrote}
+use Rattle.line_stream.specs.Lines.{whole}
+use Rattle.row_kinds.specs.declared.kind.Phase.the-variants as phase
+use Rattle.row_kinds.specs.Reader.{readerEnding}
+use Rattle.row_kinds.specs.Rows.{Carried, carried, rowsIn, freshAt}
+use Rattle.row_kinds.specs.Rows as Rows
 use Rattle.state_words.specs.Reader.{readerWords, readerOf}
 use Rattle.woldgrater.specs.declared.chunks.State.{State}
 use Rattle.woldgrater.specs.Play.{statusLength, room, refused}
@@ -28,8 +29,8 @@ abbrev pub memory : State → List ℕ → List Float → List Float → Memory
 memory state line times integrals = record { state = state; line = line; times = times; integrals = integrals }
 
 -- the reader that it stands for, and the bytes kept of a line
-abbrev pub rowsIn : Memory → Rows
-rowsIn m = rowsOf (readerOf (m .state .reader)) (m .times) (m .integrals)
+abbrev pub readerIn : Memory → Carried
+readerIn m = carried (readerOf (m .state .reader)) (m .times) (m .integrals)
 
 abbrev pub partIn : State → List ℕ → List ℕ
 partIn state line = take (state .kept) line
@@ -39,9 +40,11 @@ pub record KeptOf (kept within : ℕ) : Type 0 where
   pub fits : within ≤ 256
   pub same : (line : List ℕ) → length line ≡ 256 → take within line ≡ take kept line
 
--- what a chunk leaves: the reader, the part of a line, and the answers at the start of the output, with every other byte of that as it was
+-- what a chunk leaves: the reader, with the states of the other kinds as they were; the part of a line; and the answers at the start of the output, with every
+-- other byte of that as it was
 abbrev pub FedTo : Memory → List ℕ → List ℕ → Memory → List ℕ → ℕ → Type 0
-FedTo m chunk out next after sent = FedAs (rowsFeed (rowsIn m) (partIn (m .state) (m .line)) chunk) (rowsIn next) (next .line) (next .state .kept) out after sent
+FedTo m chunk out next after sent =
+    Rows.FedTo (readerIn m) (partIn (m .state) (m .line)) chunk out (readerIn next) (next .line) (next .state .kept) after sent
 
 -- fed where there is room, and else refused, with all as it was
 pub record FedOrRefused (m : Memory) (chunk out : List ℕ) (next : Memory) (after : List ℕ) (sent : ℕ) : Type 0 where
@@ -50,7 +53,7 @@ pub record FedOrRefused (m : Memory) (chunk out : List ℕ) (next : Memory) (aft
 
 -- what the end of the input leaves: what is said of it at the start of the output, and every other byte as it was; the window has no say in it
 abbrev pub EndedBy : State → List ℕ → List ℕ → List ℕ → ℕ → Type 0
-EndedBy state line out after r = (times integrals : List Float) → Wrote out 0 (readerEnding (rowsIn (memory state line times integrals)) (partIn state line)) r after r
+EndedBy state line out after r = (times integrals : List Float) → Wrote out 0 (readerEnding (rowsIn (readerIn (memory state line times integrals))) (partIn state line)) r after r
 
 -- said where there is room, and else refused, with the output as it was
 pub record EndedOrRefused (state : State) (line out after : List ℕ) (r : ℕ) : Type 0 where

@@ -3,8 +3,8 @@ use Prim.Native.Nat.{ℕ, _+_, _*_, _-_, _^_, _≤_, _<_}
 use mathlib.Core.Path.{_≡_}
 use mathlib.Core.List.{List}
 use lib.ListN.{length}
-use Rattle.row_lines.specs.Column.{Wrote}
-use Rattle.row_reader.specs.Rows.{rowsOutput}
+use Rattle.columns.specs.Column.{Wrote}
+use Rattle.row_kinds.specs.Rows.{rowsOutput}
 
 -- the bytes of a status line
 abbrev pub statusLength : ℕ

@@ -8,8 +8,8 @@ use crate::lent::feed_lent;
 use crate::lent::finish_lent;
 use crate::room::STATUS_LENGTH;
 use crate::room::has_room;
-use row_reader::chunk::fresh_at;
-use row_reader::types::Phase;
+use row_kinds::kind::Phase;
+use row_kinds::types::fresh_at;
 use state_words::reader::ReaderWords;
 
 // The reader, and the number of bytes kept of a line that has not ended.
@@ -48,7 +48,10 @@ fn feed_chunk(
     state: State,
 ) -> Fed
     requires { ⌜ room (length (now chunk)) ≤ length (now out) ⌝ }
-    ensures { λ r. ⌜ FedTo (memory state (now (line .entry)) (now (times .entry)) (now (integrals .entry))) (now (chunk .entry)) (now (out .entry)) (memory (r .state) (now (line .exit)) (now (times .exit)) (now (integrals .exit))) (now (out .exit)) (r .sent) ⌝ }
+    ensures { λ r. ⌜ FedTo (memory state (now (line .entry)) (now (times .entry)) (now (integrals .entry)))
+        (now (chunk .entry)) (now (out .entry))
+        (memory (r .state) (now (line .exit)) (now (times .exit)) (now (integrals .exit))) (now (out .exit))
+        (r .sent) ⌝ }
 {
     let words = state.reader;
     let reader = words.state();
@@ -74,7 +77,10 @@ pub extern "C" fn woldgrater_feed(
     integrals: &mut [f64; 512],
     state: State,
 ) -> Fed
-    ensures { λ r. ⌜ FedOrRefused (memory state (now (line .entry)) (now (times .entry)) (now (integrals .entry))) (now (chunk .entry)) (now (out .entry)) (memory (r .state) (now (line .exit)) (now (times .exit)) (now (integrals .exit))) (now (out .exit)) (r .sent) ⌝ }
+    ensures { λ r. ⌜ FedOrRefused (memory state (now (line .entry)) (now (times .entry))
+        (now (integrals .entry))) (now (chunk .entry)) (now (out .entry))
+        (memory (r .state) (now (line .exit)) (now (times .exit)) (now (integrals .exit))) (now (out .exit))
+        (r .sent) ⌝ }
 {
     if has_room(out.len(), chunk.len()) {
         return feed_chunk(chunk, out, line, times, integrals, state);

@@ -2,14 +2,13 @@
 ghost use mathlib.Core.Path.{_≡_};
 ghost use Prim.Native.Nat.{_≤_};
 ghost use lib.ListN.{length, take};
-ghost use Rattle.lines.specs.Lines.{FedAs};
-ghost use Rattle.row_reader.specs.Rows.{rowsOf, rowsFeed, Finished};
+ghost use Rattle.row_kinds.specs.Rows.{carried, FedTo, Finished};
 ghost use Rattle.woldgrater.specs.Play.{statusLength, room};
 ghost use Rattle.woldgrater.specs.Chunks.{KeptOf};
+use row_kinds::types::Fed;
+use row_kinds::types::RowReader;
 use row_reader::feed::feed;
 use row_reader::feed::finish;
-use row_reader::types::Fed;
-use row_reader::types::RowReader;
 
 // The bytes kept of a line: all of its buffer where a caller says more.
 fn kept_of(kept: usize) -> usize
@@ -35,7 +34,10 @@ pub fn feed_lent(
     kept: usize,
 ) -> Fed
     requires { ⌜ room (length (now chunk)) ≤ length (now out) ⌝ }
-    ensures { λ r. ⌜ FedAs (rowsFeed (rowsOf reader (now (times .entry)) (now (integrals .entry))) (take kept (now (line .entry))) (now (chunk .entry))) (rowsOf (r .reader) (now (times .exit)) (now (integrals .exit))) (now (line .exit)) (r .len) (now (out .entry)) (now (out .exit)) (r .sent) ⌝ }
+    ensures { λ r. ⌜ FedTo (carried reader (now (times .entry)) (now (integrals .entry)))
+        (take kept (now (line .entry))) (now (chunk .entry)) (now (out .entry))
+        (carried (r .reader) (now (times .exit)) (now (integrals .exit))) (now (line .exit)) (r .len)
+        (now (out .exit)) (r .sent) ⌝ }
 {
     let had = kept_of(kept);
     lend(times);

@@ -4,10 +4,10 @@ ghost use lib.ListN.{length};
 ghost use Rattle.woldgrater.specs.Play.{room, Played, PlayedOrRefused};
 use crate::room::STATUS_LENGTH;
 use crate::room::has_room;
-use row_reader::chunk::fresh_at;
+use row_kinds::kind::Phase;
+use row_kinds::types::fresh_at;
 use row_reader::feed::feed;
 use row_reader::feed::finish;
-use row_reader::types::Phase;
 
 // A whole row file, from a fresh start, into an output with room for it.
 fn play(rows: &[u8], out: &mut [u8]) -> usize

@@ -2,13 +2,14 @@
 use Prim.Native.Nat.{_≤_}
 use mathlib.Core.Path.{_≡_}
 use lib.ListN.{length}
+use Rattle.row_kinds.specs.Rows.{Window}
 use borrow.Author.Needs.{needs}
 use Rattle.rows.proofs.play.Statement.{statement}
 use Rattle.rows.proofs.play.Tie as tie
 
 abbrev Inv-loop : tie.InvT-loop
 Inv-loop buffer₀ line₀ out₀ times₀ integrals₀ reader₀ len₀ more₀ turns₀ buffer line out times integrals reader len more turns =
-    (length buffer ≡ length buffer₀) × (length line ≡ 256) × (length out ≡ length out₀) × (length times ≡ 512) × (length integrals ≡ 512) × (len ≤ 256)
+    (length buffer ≡ length buffer₀) × (length line ≡ 256) × (length out ≡ length out₀) × Window times integrals × (len ≤ 256)
 
 abbrev μ-loop : tie.MeasureT-loop
 μ-loop buffer₀ line₀ out₀ times₀ integrals₀ reader₀ len₀ more₀ turns₀ buffer line out times integrals reader len more turns = turns

@@ -17,7 +17,7 @@ unfolding thresholdUpdates
 threshold-updates-spec =
     tie.close
     (tie.spec Inv-loop μ-loop
-    (λ c. omega arith)
+    (λ c κs. tt)
     (λ c. start _ _)
     (λ c. omega arith) (λ c. omega arith) (λ c. omega arith) (λ c. omega arith) (λ c κs. tt) (λ c. omega arith)
     (λ c. omega arith) (λ c. omega arith) (λ c. omega arith)

@@ -23,7 +23,12 @@ lend-requires-2 c κs = search needs
 feed-requires : tie.Need-feed-requires
 feed-requires c κs =
     let k = c .before .before .before .before .before .before .before .before .before .before in
-    (search needs, k .kept-of .ensures .fits, omega (arith, k .before .before .before .pre), search needs, search needs)
+    record {
+      line-long = search needs;
+      had-fits = k .kept-of .ensures .fits;
+      room = omega (arith, k .before .before .before .pre);
+      window = record { times-long = search needs; integrals-long = search needs };
+    }
 
 same-length : tie.Need-same-length
 same-length c = search needs
@@ -32,7 +37,7 @@ returns : tie.Need-returns
 returns c =
     let a = c .before .before .before .before .before .before in
     let k = a .before .before .before .before .before .before .before in
-    kept-fed _ _ (k .kept-of .ensures) (k .before .before .before .args .line .now) (line-long a) _ _ _ _ _ _ _ _ (c .before .before .feed .ensures .2)
+    kept-fed _ _ (k .kept-of .ensures) (k .before .before .before .args .line .now) (line-long a) _ _ _ _ _ _ _ _ (c .before .before .feed .ensures)
 
 pub feed-lent-spec : {M : Type 1} → statement M
 feed-lent-spec = tie.close (tie.spec kept-of-requires lend-requires lend-requires-2 feed-requires same-length returns)

@@ -23,7 +23,7 @@ abbrev beyond : tie.After-feed → List ℕ
 beyond f = drop (answers (at-start f)) (at-start f .args .out .now)
 
 starts : (f : tie.After-feed) → f .feed .result .sent ≤ length (f .feed .last .1 .1 .0 ++ beyond f)
-starts f = end-starts (f .feed .last .1 .1 .0) (beyond f) (f .feed .result .sent) (f .feed .ensures .2 .said-fits)
+starts f = end-starts (f .feed .last .1 .1 .0) (beyond f) (f .feed .result .sent) (f .feed .ensures .fed .said-fits)
 
 fresh-at-requires : tie.Need-fresh-at-requires
 fresh-at-requires c κs = search needs
@@ -46,7 +46,12 @@ slice-aggregate-feed-2 c = sym (length-take-le _ (c .before .before .before .bef
 feed-requires : tie.Need-feed-requires
 feed-requires c κs =
     let at-start = c .before .before .before .before .before .before .before in
-    (refl, omega arith, le-of-eq (sym (length-take-le _ (at-start .args .out .now) (omega (arith, at-start .pre)))), refl, refl)
+    record {
+      line-long = refl;
+      had-fits = omega arith;
+      room = le-of-eq (sym (length-take-le _ (at-start .args .out .now) (omega (arith, at-start .pre))));
+      window = record { times-long = refl; integrals-long = refl };
+    }
 
 slice-aggregate-finish : tie.Need-slice-aggregate-finish
 slice-aggregate-finish c = search needs
@@ -64,13 +69,13 @@ finish-requires : tie.Need-finish-requires
 finish-requires c κs =
     let f = c .before .before .before .before .before .before in
     let s = at-start f in
-    (omega (arith, f .feed .ensures .2 .part-fits, f .feed .kept .1 .0), end-fits (f .feed .last .1 .1 .0) (beyond f) (f .feed .result .sent) (f .feed .ensures .2 .said-fits) (omega (arith, s .pre, length-drop (answers s) (s .args .out .now))))
+    (omega (arith, f .feed .ensures .fed .part-fits, f .feed .kept .1 .0), end-fits (f .feed .last .1 .1 .0) (beyond f) (f .feed .result .sent) (f .feed .ensures .fed .said-fits) (omega (arith, s .pre, length-drop (answers s) (s .args .out .now))))
 
 add-result : tie.Need-add-result
 add-result c =
     let f = c .before .before .before .before .before .before .before .before .before in
     let s = at-start f in
-    omega (arith, f .feed .ensures .2 .said-fits, f .feed .kept .1 .1 .0, c .before .before .finish .ensures .1, s .pre, length-take-le (answers s) (s .args .out .now) (omega (arith, s .pre)), s .good)
+    omega (arith, f .feed .ensures .fed .said-fits, f .feed .kept .1 .1 .0, c .before .before .finish .ensures .1, s .pre, length-take-le (answers s) (s .args .out .now) (omega (arith, s .pre)), s .good)
 
 same-length : tie.Need-same-length
 same-length c = search needs
@@ -85,7 +90,7 @@ returns c =
     let sent = at-feed .feed .result .sent in
     let X = first ++ beyond at-feed in
     played (at-fresh .fresh-at .result) (at-feed .feed .result .reader) (at-fresh .fresh-at .ensures) _ _ _ _ _ _ _ _ _ first (beyond at-feed) (take (length X - sent) (drop sent X)) _ _ sent _
-    (take-append-drop (answers s) (s .args .out .now)) (at-feed .feed .ensures .2) (at-feed .feed .kept .1 .1 .0) (take-append-drop (length X - sent) (drop sent X)) (omega (arith, at-finish .finish .ensures .1, end-fits first (beyond at-feed) sent (at-feed .feed .ensures .2 .said-fits) (omega (arith, s .pre, length-drop (answers s) (s .args .out .now))))) (at-finish .finish .ensures .0)
+    (take-append-drop (answers s) (s .args .out .now)) (at-feed .feed .ensures .fed) (at-feed .feed .kept .1 .1 .0) (take-append-drop (length X - sent) (drop sent X)) (omega (arith, at-finish .finish .ensures .1, end-fits first (beyond at-feed) sent (at-feed .feed .ensures .fed .said-fits) (omega (arith, s .pre, length-drop (answers s) (s .args .out .now))))) (at-finish .finish .ensures .0)
 
 pub play-spec : {M : Type 1} → statement M
 play-spec =

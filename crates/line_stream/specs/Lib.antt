@@ -1,0 +1,3 @@
+-- A stream of bytes as lines, each answered from a state; and the lines of a kind of rows.
+pub mod Lines
+pub mod RowKind

@@ -1,2 +1,0 @@
--- A stream of bytes as lines, each answered from a state.
-pub mod Lines

@@ -1,0 +1,2 @@
+-- When the program reads no more.
+pub mod Turns
