@@ -6,7 +6,7 @@ use native.Mathlib.Omega.{arith}
 use lib.ListN.{length, take, length-take}
 use lib.Seq.{take-all}
 use Rattle.columns.proofs.Lines.{length-status}
-use Rattle.line_stream.specs.Lines.{Answer, whole, cut}
+use Rattle.line_stream.specs.Lines.{Answer, whole}
 use Rattle.line_stream.proofs.Cutting.{at-most-or-above}
 use Rattle.line_stream.proofs.RowKinds.{kind-cut, kind-room}
 use Rattle.freeze_lines.specs.Freeze.{freezeKind}
@@ -20,7 +20,7 @@ use Rattle.row_kinds.specs.declared.kind.Kind.the-variants as kind
 use Rattle.row_kinds.specs.declared.kind.Phase.{Phase}
 use Rattle.row_kinds.specs.declared.kind.Phase.the-variants as phase
 use Rattle.row_kinds.specs.Kind.{phaseAfter}
-use Rattle.row_kinds.specs.Reader.{First, At, Stopped, firstLine, answerAs, readerKept, readerLine}
+use Rattle.row_kinds.specs.Reader.{First, At, Stopped, firstLine, answerAs, readerLine}
 use Rattle.row_kinds.specs.Rows.{Sequence, Freeze, Relief, Econ, startOf, sequenceLine, Rows, rowsStart, rowsLine, rowsOutput, rowsWritten}
 use Rattle.row_kinds.specs.Rows.{Carried, sequenceIn, atPhase, rowsIn, withPhase, withSequence, withRows}
 use Rattle.row_kinds.proofs.Words.{long-is-none}
@@ -93,6 +93,3 @@ pub moved-on : (k : Kind) (c₀ c c′ : Carried) → c ≡ withSequence (sequen
 moved-on kind.Freeze c₀ c c′ e f = f ∙ ap (λ (x : Carried). withSequence (sequenceIn kind.Freeze c′) x) e
 moved-on kind.Relief c₀ c c′ e f = f ∙ ap (λ (x : Carried). withSequence (sequenceIn kind.Relief c′) x) e
 moved-on kind.Econ c₀ c c′ e f = f ∙ ap (λ (x : Carried). withSequence (sequenceIn kind.Econ c′) x) e
-
-pub live : (k : Kind) (c : Carried) (p : List ℕ) → cut p ≡ readerKept (At (sequenceIn k c)) p
-live k c p = refl
