@@ -1,7 +1,8 @@
 """The statuses that begin an answer: the one table of them, in the order in which they are tried.
 
-A status is a line here: its number, the kinds of row files it is given in, and what it means. It is a whole
-number like any other. docs/ROW_FILES.md shows the table, and a test holds the page to it.
+A status is a line here: its number, the kinds of row files it is given in, and what it means. One that is given in
+none is for a row that is written. It is a whole number like any other. docs/ROW_FILES.md shows the table, and a test
+holds the page to it.
 """
 
 import enum
@@ -23,6 +24,7 @@ class Status(enum.IntEnum):
     SIGNED_TIME = 2, KINDS, "the time's sign bit is set, as in -0.0"
     EARLIER = 3, KINDS, 'the time is below that of the last accepted row; an equal time is taken'
     WINDOW_FULL = 4, ['relief'], 'the window, with old points dropped, holds 512, and the last is of another time'
+    NO_ROOM = 10, [], 'the buffer has fewer bytes than the line with its newline'
     ACCEPTED = 0, KINDS, 'the row is accepted, and its commands follow'
 
 
@@ -33,4 +35,4 @@ def given_in(kind):
 
 def whose(status):
     """The kinds of a status in words."""
-    return 'all' if status.kinds == KINDS else ', '.join(status.kinds)
+    return 'all' if status.kinds == KINDS else ', '.join(status.kinds) or 'writing'

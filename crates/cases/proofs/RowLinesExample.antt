@@ -30,7 +30,7 @@ use Rattle.columns.specs.Scan.{digit, decimal}
 use Rattle.columns.specs.Column.{column}
 use Rattle.columns.specs.Forms.{isWord, wordColumn, readWord, columnsGood, wellFormed, wordsOf, lineOf}
 use Rattle.columns.specs.Word.{wordSigned}
-use Rattle.columns.specs.Line.{answerLine}
+use Rattle.columns.specs.Line.{wordsLine}
 use Rattle.line_stream.specs.Lines.{linesAfter, restAfter, answers, feed}
 use Rattle.line_stream.specs.Lines as Lines
 use Rattle.line_stream.specs.RowKind.{Row, rowLine, readAnswered, lineAnswered}
@@ -81,8 +81,8 @@ unfolding row commands economizerRow stepBy economizerVerdict judge numbersFinit
 answer-is = refl
 
 -- the line of the commands
-line-is : answerLine econAnswerForms (econAnswerWords (answer.Commands commands)) ≡ outputBytes
-unfolding answerLine econAnswerWords econCommandWords commands outputBytes answerText bytesOf lineOf wordColumn column toBits ofBits
+line-is : wordsLine econAnswerForms (econAnswerWords (answer.Commands commands)) ≡ outputBytes
+unfolding wordsLine econAnswerWords econCommandWords commands outputBytes answerText bytesOf lineOf wordColumn column toBits ofBits
 line-is = refl
 
 said-is : econAnswered economizerFresh rowText .said ≡ outputBytes

@@ -6,6 +6,8 @@ pub mod Digits
 pub mod Lanes
 pub mod Writing
 pub mod Words
+pub mod Values
 pub mod Tables
 pub mod Loops
 pub mod Lines
+pub mod Plain

@@ -9,7 +9,9 @@ use lib.ListN.{length, take, drop, length-append, length-drop, take-append-drop}
 use lib.Seq.{take-at, drop-at}
 use borrow.Author.Tests.{eqb-true, eq-eqb, ne-eqb}
 use Rattle.columns.specs.declared.forms.Word.{Word}
-use Rattle.columns.specs.Forms.{isWord, wordColumn, aWord, readWord, columnsGood, wellFormed, wordsOf, lineOf, areWords}
+use Rattle.columns.specs.declared.forms.Table.{Table}
+use Rattle.columns.specs.declared.forms.Words.{Words}
+use Rattle.columns.specs.Forms.{isWord, wordColumn, aWord, readWord, columnsGood, wellFormed, wordsOf, lineOf, areWords, tableOf, wordList, formsOf, wordsIn}
 use Rattle.columns.proofs.Inverse.{both}
 use Rattle.columns.proofs.Words.{read-word-back, read-word-was, length-word}
 
@@ -98,3 +100,11 @@ line-forms n forms [] h = line-none (take n forms) ∙ sym (line-none forms)
 line-forms zero forms (w ∷ words) h = absurd (omega arith)
 line-forms (suc n) [] (w ∷ words) h = refl
 line-forms (suc n) (f ∷ forms) (w ∷ words) h = ap (λ (l : List ℕ). wordColumn f w ++ l) (line-forms n forms words (omega arith))
+
+-- ---- as the code holds them
+
+pub forms-are : (forms : List ℕ) (table : Table) → table ≡ tableOf forms → formsOf table ≡ forms
+forms-are forms table e = ap formsOf e ∙ take-at forms _ (length forms) refl
+
+pub words-are : (words : List ℕ) (held : Words) → held ≡ wordList words → wordsIn held ≡ words
+words-are words held e = ap wordsIn e ∙ take-at words _ (length words) refl

@@ -23,6 +23,6 @@ endOfLine = newline ∷ []
 unfoldable pub statusLine : ℕ → List ℕ
 statusLine status = column false status ++ endOfLine
 
--- the line of the words of an answer by the forms of its columns: the status, and the commands where it is 0
-unfoldable pub answerLine : List ℕ → List ℕ → List ℕ
-answerLine forms words = lineOf forms words ++ endOfLine
+-- the line of words by the forms of its columns, with its newline
+unfoldable pub wordsLine : List ℕ → List ℕ → List ℕ
+wordsLine forms words = lineOf forms words ++ endOfLine

@@ -11,3 +11,7 @@ yesNoWord b = cond b 1 0
 -- two's complement
 unfoldable pub wordSigned : ℕ → ℤ
 wordSigned word = cond (ltb word 9223372036854775808) (pos word) (negsuc (18446744073709551615 - word))
+
+abbrev pub signedWord : ℤ → ℕ
+signedWord (pos n) = n
+signedWord (negsuc k) = 18446744073709551615 - k

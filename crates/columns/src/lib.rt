@@ -3,4 +3,4 @@ pub mod scan; // a column, read: the number in it
 pub mod column; // a column, written
 pub mod forms; // the columns of a line by a table of their forms
 pub mod word; // the value of a word: a float, a signed number, a yes or no
-pub mod line; // the end of a line, and the line of an answer
+pub mod line; // the end of a line, and the line of words

@@ -1,11 +1,11 @@
-// The end of a line, a line that holds a status alone, and the line of an answer.
+// The end of a line, a line that holds a status alone, and the line of words.
 ghost use mathlib.Core.Path.{_≡_};
 ghost use mathlib.Core.List.{[], _∷_};
 ghost use Prim.Native.Nat.{_+_, _*_, _≤_, _<_};
 ghost use lib.ListN.{length};
 ghost use Rattle.columns.specs.Column.{Wrote};
 ghost use Rattle.columns.specs.Forms.{formsOf, wordsIn, wordList, WordsFit};
-ghost use Rattle.columns.specs.Line.{endOfLine, statusLine, answerLine};
+ghost use Rattle.columns.specs.Line.{endOfLine, statusLine, wordsLine};
 use crate::column::write_column;
 use crate::forms::Table;
 use crate::forms::Words;
@@ -38,10 +38,10 @@ pub fn status_alone(status: u64) -> Words
     Words { count: 1, words }
 }
 
-// Helper. Writes the line of an answer, and gives the place after it.
-pub fn write_answer(out: &mut [u8], at: usize, table: Table, words: Words) -> usize
+// Helper. Writes the line of words, with its newline, and gives the place after it.
+pub fn write_line(out: &mut [u8], at: usize, table: Table, words: Words) -> usize
     requires { ⌜ WordsFit table words (now out) (at + 1) ⌝ }
-    ensures { λ r. ⌜ Wrote (now (out .entry)) at (answerLine (formsOf table) (wordsIn words))
+    ensures { λ r. ⌜ Wrote (now (out .entry)) at (wordsLine (formsOf table) (wordsIn words))
         (21 * words .count + 1) (now (out .exit)) r ⌝ }
 {
     let end = write_columns(out, at, table, words);

@@ -1,9 +1,11 @@
 // The value of a word, and the word of a value.
 ghost use mathlib.Core.Path.{_≡_};
+ghost use mathlib.Core.Bool.{true, false};
 ghost use Prim.Native.Nat.{_<_};
 ghost use lib.IntN.{pos, negsuc};
+ghost use lib.Signed.{ltZ};
 ghost use lib.Ieee.{ofBits, toBits, binary64};
-ghost use Rattle.columns.specs.Word.{yesNoWord, wordSigned};
+ghost use Rattle.columns.specs.Word.{yesNoWord, wordSigned, signedWord};
 
 // The float of a pattern; a NaN for any pattern of a NaN. There is one NaN here, and it has no bits, so patterns of NaNs are told apart from the others first.
 pub fn of_pattern(n: u64) -> f64
@@ -59,4 +61,30 @@ pub fn word_signed(word: u64) -> i64
         return negative(18446744073709551615 - word);
     }
     positive(word)
+}
+
+// A signed number from 0 on.
+fn height(z: i64) -> u64
+    requires { ⌜ ltZ z (pos 0) ≡ false ⌝ }
+    ensures { λ r. ⌜ z ≡ pos r ⌝ }
+{
+    z as u64
+}
+
+// How far a signed number is below −1.
+fn depth(z: i64) -> u64
+    requires { ⌜ ltZ z (pos 0) ≡ true ⌝ }
+    ensures { λ r. ⌜ (z ≡ negsuc r) × (r < 9223372036854775808) ⌝ }
+{
+    (!z) as u64
+}
+
+// The word of a signed number.
+pub fn signed_word(z: i64) -> u64
+    ensures { λ r. ⌜ r ≡ signedWord z ⌝ }
+{
+    if z < 0 {
+        return 18446744073709551615 - depth(z);
+    }
+    height(z)
 }

@@ -6,15 +6,17 @@ use lib.Dec.{eqb}
 use lib.ListN.{getD}
 use lib.Ieee.{binary64, ofBits, toBits}
 use Rattle.columns.specs.Forms.{float, yesNo, signed, unsigned}
-use Rattle.columns.specs.Word.{yesNoWord, wordSigned}
+use Rattle.columns.specs.Word.{yesNoWord, wordSigned, signedWord}
 use Rattle.line_stream.specs.Lines.{Answer}
 use Rattle.line_stream.specs.RowKind.{RowKind, RowLine, rowLine, lineAnswered}
+use Rattle.row_writer.specs.Writing.{rowText}
 use Rattle.refusals.specs.Refusals.{refusalNumber}
 use Rattle.economizer_controller.specs.declared.types.EconomizerRow.{EconomizerRow}
 use Rattle.economizer_controller.specs.declared.types.EconomizerState.{EconomizerState}
 use Rattle.economizer_controller.specs.declared.types.EconomizerCommands.{EconomizerCommands}
 use Rattle.economizer_controller.specs.declared.types.EconomizerAnswer.{EconomizerAnswer}
 use Rattle.economizer_controller.specs.declared.types.EconomizerAnswer.the-variants as answer
+use Rattle.economizer_controller.specs.Verdict.{numbersFinite}
 use Rattle.economizer_controller.specs.Step.{economizerRow}
 
 -- ---- a row
@@ -44,6 +46,19 @@ econRowOf words = record {
   «operation_mode» = wordSigned (getD words 6 0);
   «freeze_protection_stage» = wordSigned (getD words 7 0);
 }
+
+-- the words of a row
+unfoldable pub econRowWords : EconomizerRow → List ℕ
+econRowWords row =
+    toBits binary64 (row .time)
+    ∷ toBits binary64 (row .«outdoor_airflow_normalized»)
+    ∷ toBits binary64 (row .«minimum_outdoor_airflow_setpoint_normalized»)
+    ∷ toBits binary64 (row .«supply_temperature_signal»)
+    ∷ toBits binary64 (row .«outdoor_air_temperature»)
+    ∷ yesNoWord (row .«supply_fan_status»)
+    ∷ signedWord (row .«operation_mode»)
+    ∷ signedWord (row .«freeze_protection_stage»)
+    ∷ []
 
 -- ---- an answer
 
@@ -78,15 +93,20 @@ abbrev pub econKind : RowKind EconomizerState EconomizerRow EconomizerAnswer
 econKind = record {
   rowForms = econRowForms;
   rowOf = econRowOf;
+  rowWords = econRowWords;
+  finite = numbersFinite;
   next = λ state row. economizerRow state row .state;
   answer = λ state row. economizerRow state row .answer;
   answerForms = econAnswerForms;
   answerWords = econAnswerWords;
 }
 
--- the row of a line
+-- the row of a line, and the line of a row with its newline
 abbrev pub econLine : List ℕ → RowLine EconomizerRow
 econLine = rowLine econKind
+
+abbrev pub econRowText : EconomizerRow → List ℕ
+econRowText = rowText econKind
 
 -- a line answered: the row's answer and the next state
 abbrev pub econAnswered : EconomizerState → List ℕ → Answer EconomizerState

@@ -2,12 +2,14 @@
 ghost use mathlib.Core.Path.{_≡_};
 ghost use Rattle.columns.specs.Forms.{wordList};
 ghost use Rattle.line_stream.specs.RowKind.{Stepped};
-ghost use Rattle.econ_lines.specs.Econ.{econRowOf, econCommandWords, econAnswerWords, econKind};
+ghost use Rattle.row_writer.specs.Writing.{writeRow, LeftBy, ReadsBack};
+ghost use Rattle.econ_lines.specs.Econ.{econRowOf, econRowWords, econCommandWords, econAnswerWords, econKind};
 use columns::forms::Table;
 use columns::forms::Words;
 use columns::line::status_alone;
 use columns::word::of_pattern;
 use columns::word::pattern;
+use columns::word::signed_word;
 use columns::word::word_signed;
 use columns::word::yes_no_word;
 use economizer_controller::step::economizer_row;
@@ -15,6 +17,9 @@ use economizer_controller::types::EconomizerAnswer;
 use economizer_controller::types::EconomizerCommands;
 use economizer_controller::types::EconomizerRow;
 use economizer_controller::types::EconomizerState;
+use economizer_controller::verdict::numbers_finite;
+use row_writer::RowWritten;
+use row_writer::write_row;
 
 // The columns of a row.
 pub const ECON_ROW: Table = Table {
@@ -55,7 +60,7 @@ pub const ECON_ANSWER: Table = Table {
 };
 
 // The row of its words.
-fn econ_row_of(words: [u64; 12]) -> EconomizerRow
+pub fn econ_row_of(words: [u64; 12]) -> EconomizerRow
     ensures { λ r. ⌜ r ≡ econRowOf words ⌝ }
 {
     EconomizerRow {
@@ -68,6 +73,41 @@ fn econ_row_of(words: [u64; 12]) -> EconomizerRow
         operation_mode: word_signed(words[6]),
         freeze_protection_stage: word_signed(words[7]),
     }
+}
+
+// The words of a row, whose line reads back as the row.
+fn econ_row_words(row: EconomizerRow) -> Words
+    ensures { λ r. ⌜ r ≡ wordList (econRowWords row) ⌝ }
+    ensures { λ _. ⌜ ReadsBack econKind row ⌝ }
+{
+    Words {
+        count: 8,
+        words: [
+            pattern(row.time),
+            pattern(row.outdoor_airflow_normalized),
+            pattern(row.minimum_outdoor_airflow_setpoint_normalized),
+            pattern(row.supply_temperature_signal),
+            pattern(row.outdoor_air_temperature),
+            yes_no_word(row.supply_fan_status),
+            signed_word(row.operation_mode),
+            signed_word(row.freeze_protection_stage),
+            0,
+            0,
+            0,
+            0,
+        ],
+    }
+}
+
+// Writes the line of a row, with its newline, from the place `at` on. Refused with 1, first, for a number that is not finite, and with 10, next, where
+// too few bytes are left; a refusal leaves the buffer as it was. The line reads back as the row, and a row that is refused for its time is written too.
+pub fn write_econ_row(out: &mut [u8], at: usize, row: EconomizerRow) -> RowWritten
+    ensures { λ r. ⌜ LeftBy (writeRow econKind row (now (out .entry)) at) r (now (out .exit)) ⌝ }
+    ensures { λ _. ⌜ ReadsBack econKind row ⌝ }
+{
+    let finite = numbers_finite(row);
+    let words = econ_row_words(row);
+    write_row(out, at, ECON_ROW, words, finite)
 }
 
 // The words of an accepted row's answer: status 0 and the commands.

@@ -9,12 +9,14 @@ use Rattle.columns.specs.Forms.{float, yesNo, unsigned}
 use Rattle.columns.specs.Word.{yesNoWord}
 use Rattle.line_stream.specs.Lines.{Answer}
 use Rattle.line_stream.specs.RowKind.{RowKind, RowLine, rowLine, lineAnswered}
+use Rattle.row_writer.specs.Writing.{rowText}
 use Rattle.refusals.specs.Refusals.{refusalNumber}
 use Rattle.freeze_protection.specs.declared.types.FreezeRow.{FreezeRow}
 use Rattle.freeze_protection.specs.declared.types.FreezeState.{FreezeState}
 use Rattle.freeze_protection.specs.declared.types.FreezeCommands.{FreezeCommands}
 use Rattle.freeze_protection.specs.declared.types.FreezeAnswer.{FreezeAnswer}
 use Rattle.freeze_protection.specs.declared.types.FreezeAnswer.the-variants as answer
+use Rattle.freeze_protection.specs.Verdict.{numbersFinite}
 use Rattle.freeze_protection.specs.Step.{freezeRow}
 
 -- ---- a row
@@ -52,6 +54,23 @@ freezeRowOf words = record {
   «cooling_coil» = ofBits binary64 (getD words 10 0);
   «mixed_air_temperature» = ofBits binary64 (getD words 11 0);
 }
+
+-- the words of a row
+unfoldable pub freezeRowWords : FreezeRow → List ℕ
+freezeRowWords row =
+    toBits binary64 (row .time)
+    ∷ toBits binary64 (row .«outdoor_damper_min_position»)
+    ∷ toBits binary64 (row .«outdoor_damper»)
+    ∷ toBits binary64 (row .«heating_coil»)
+    ∷ toBits binary64 (row .«minimum_outdoor_damper»)
+    ∷ toBits binary64 (row .«return_damper»)
+    ∷ toBits binary64 (row .«supply_air_temperature»)
+    ∷ yesNoWord (row .«software_reset»)
+    ∷ yesNoWord (row .«supply_fan_status»)
+    ∷ toBits binary64 (row .«supply_fan_speed»)
+    ∷ toBits binary64 (row .«cooling_coil»)
+    ∷ toBits binary64 (row .«mixed_air_temperature»)
+    ∷ []
 
 -- ---- an answer
 
@@ -100,15 +119,20 @@ abbrev pub freezeKind : RowKind FreezeState FreezeRow FreezeAnswer
 freezeKind = record {
   rowForms = freezeRowForms;
   rowOf = freezeRowOf;
+  rowWords = freezeRowWords;
+  finite = numbersFinite;
   next = λ state row. freezeRow state row .state;
   answer = λ state row. freezeRow state row .answer;
   answerForms = freezeAnswerForms;
   answerWords = freezeAnswerWords;
 }
 
--- the row of a line
+-- the row of a line, and the line of a row with its newline
 abbrev pub freezeLine : List ℕ → RowLine FreezeRow
 freezeLine = rowLine freezeKind
+
+abbrev pub freezeRowText : FreezeRow → List ℕ
+freezeRowText = rowText freezeKind
 
 -- a line answered: the row's answer and the next state
 abbrev pub freezeAnswered : FreezeState → List ℕ → Answer FreezeState

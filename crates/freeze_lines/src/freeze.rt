@@ -2,7 +2,8 @@
 ghost use mathlib.Core.Path.{_≡_};
 ghost use Rattle.columns.specs.Forms.{wordList};
 ghost use Rattle.line_stream.specs.RowKind.{Stepped};
-ghost use Rattle.freeze_lines.specs.Freeze.{freezeRowOf, freezeCommandWords, freezeAnswerWords, freezeKind};
+ghost use Rattle.row_writer.specs.Writing.{writeRow, LeftBy, ReadsBack};
+ghost use Rattle.freeze_lines.specs.Freeze.{freezeRowOf, freezeRowWords, freezeCommandWords, freezeAnswerWords, freezeKind};
 use columns::forms::Table;
 use columns::forms::Words;
 use columns::line::status_alone;
@@ -14,6 +15,9 @@ use freeze_protection::types::FreezeAnswer;
 use freeze_protection::types::FreezeCommands;
 use freeze_protection::types::FreezeRow;
 use freeze_protection::types::FreezeState;
+use freeze_protection::verdict::numbers_finite;
+use row_writer::RowWritten;
+use row_writer::write_row;
 
 // The columns of a row.
 pub const FREEZE_ROW: Table = Table {
@@ -54,7 +58,7 @@ pub const FREEZE_ANSWER: Table = Table {
 };
 
 // The row of its words.
-fn freeze_row_of(words: [u64; 12]) -> FreezeRow
+pub fn freeze_row_of(words: [u64; 12]) -> FreezeRow
     ensures { λ r. ⌜ r ≡ freezeRowOf words ⌝ }
 {
     FreezeRow {
@@ -71,6 +75,41 @@ fn freeze_row_of(words: [u64; 12]) -> FreezeRow
         cooling_coil: of_pattern(words[10]),
         mixed_air_temperature: of_pattern(words[11]),
     }
+}
+
+// The words of a row, whose line reads back as the row.
+fn freeze_row_words(row: FreezeRow) -> Words
+    ensures { λ r. ⌜ r ≡ wordList (freezeRowWords row) ⌝ }
+    ensures { λ _. ⌜ ReadsBack freezeKind row ⌝ }
+{
+    Words {
+        count: 12,
+        words: [
+            pattern(row.time),
+            pattern(row.outdoor_damper_min_position),
+            pattern(row.outdoor_damper),
+            pattern(row.heating_coil),
+            pattern(row.minimum_outdoor_damper),
+            pattern(row.return_damper),
+            pattern(row.supply_air_temperature),
+            yes_no_word(row.software_reset),
+            yes_no_word(row.supply_fan_status),
+            pattern(row.supply_fan_speed),
+            pattern(row.cooling_coil),
+            pattern(row.mixed_air_temperature),
+        ],
+    }
+}
+
+// Writes the line of a row, with its newline, from the place `at` on. Refused with 1, first, for a number that is not finite, and with 10, next, where
+// too few bytes are left; a refusal leaves the buffer as it was. The line reads back as the row, and a row that is refused for its time is written too.
+pub fn write_freeze_row(out: &mut [u8], at: usize, row: FreezeRow) -> RowWritten
+    ensures { λ r. ⌜ LeftBy (writeRow freezeKind row (now (out .entry)) at) r (now (out .exit)) ⌝ }
+    ensures { λ _. ⌜ ReadsBack freezeKind row ⌝ }
+{
+    let finite = numbers_finite(row);
+    let words = freeze_row_words(row);
+    write_row(out, at, FREEZE_ROW, words, finite)
 }
 
 // The words of an accepted row's answer: status 0 and the commands.

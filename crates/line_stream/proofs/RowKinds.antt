@@ -10,9 +10,9 @@ use lib.Seq.{take-all}
 use borrow.Author.Tests.{eq-eqb}
 use Rattle.columns.specs.declared.forms.Words.{Words}
 use Rattle.columns.specs.Forms.{unsigned, wellFormed, wordsOf, wordList, zeros, Read}
-use Rattle.columns.specs.Line.{statusLine, answerLine}
+use Rattle.columns.specs.Line.{statusLine, wordsLine}
 use Rattle.columns.proofs.Tables.{other-length, well-length}
-use Rattle.columns.proofs.Lines.{length-status, length-answer, status-answer}
+use Rattle.columns.proofs.Lines.{length-status, length-words-line, status-words-line}
 use Rattle.line_stream.specs.Lines.{Answer}
 use Rattle.line_stream.specs.RowKind.{RowKind, RowLine, Row, Malformed, rowLine, readAnswered, lineAnswered, Stepped}
 use Rattle.line_stream.proofs.Cutting.{at-most-or-above}
@@ -23,7 +23,7 @@ pub record SaidBy {Q : Type 0} (a : Answer Q) (forms line : List ℕ) (next : Q)
   pub is : answer ≡ wordList words
   pub columns : length words ≤ length forms
   pub room : 21 * length words + 1 ≤ 22 * (length line + 1)
-  pub answered : record { next = next; said = answerLine forms words } ≡ a
+  pub answered : record { next = next; said = wordsLine forms words } ≡ a
 
 module _ {S R A : Type 0} (kind : RowKind S R A) where
   -- what every kind owes: a row of at most 12 columns, of which words past the last make no difference; a status first in its answers, and a form for each of
@@ -63,7 +63,7 @@ module _ {S R A : Type 0} (kind : RowKind S R A) where
         by false e = omega (arith, length-status 5)
         by true e =
             let a : A = kind .answer q (kind .rowOf (wordsOf (kind .rowForms) line)) in
-            omega (arith, length-answer (kind .answerForms) (kind .answerWords a) (sized .words a), sized .words a, sized .room, well-length (kind .rowForms) line e)
+            omega (arith, length-words-line (kind .answerForms) (kind .answerWords a) (sized .words a), sized .words a, sized .room, well-length (kind .rowForms) line e)
 
     -- ---- a line answered by the words that were read of it
     module _ (state : S) (line : List ℕ) (good : Bool) (words : List ℕ) (read : Read (kind .rowForms) line good words) where
@@ -89,7 +89,7 @@ module _ {S R A : Type 0} (kind : RowKind S R A) where
             answered =
                 rw well (λ i. record {
                   next = (s .moved ∙ ap (λ (x : R). kind .next state x) (row-is h)) i;
-                  said = answerLine (kind .answerForms) (ap (λ (x : R). kind .answerWords (kind .answer state x)) (row-is h) i);
+                  said = wordsLine (kind .answerForms) (ap (λ (x : R). kind .answerWords (kind .answer state x)) (row-is h) i);
                 });
           }
 
@@ -104,5 +104,5 @@ module _ {S R A : Type 0} (kind : RowKind S R A) where
         room = omega arith;
         answered =
             rw (sym (read .is-good) ∙ h)
-            (ap (λ (x : List ℕ). record { next = state; said = x }) (ap (λ (x : List ℕ). answerLine x (5 ∷ [])) (sized .status) ∙ status-answer (sized .commands) 5));
+            (ap (λ (x : List ℕ). record { next = state; said = x }) (ap (λ (x : List ℕ). wordsLine x (5 ∷ [])) (sized .status) ∙ status-words-line (sized .commands) 5));
       }

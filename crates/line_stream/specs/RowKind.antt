@@ -1,19 +1,22 @@
 -- A kind of rows as a table (document 01, 'Row lines' and 'What each row refuses'): the forms of its columns in and out, the words of a row made into its
--- record, an answer made into words, and what the sequence says of a row. Each line of rows of a kind is answered by a line.
+-- record and back, an answer made into words, and what the sequence says of a row. Each line of rows of a kind is answered by a line.
 use Prim.Native.Nat.{ℕ}
 use mathlib.Core.Path.{_≡_}
 use mathlib.Core.List.{List}
-use mathlib.Core.Bool.{cond}
+use mathlib.Core.Bool.{Bool, cond}
 use Rattle.columns.specs.declared.forms.Words.{Words}
 use Rattle.columns.specs.Forms.{wellFormed, wordsOf, wordList}
-use Rattle.columns.specs.Line.{statusLine, answerLine}
+use Rattle.columns.specs.Line.{statusLine, wordsLine}
 use Rattle.line_stream.specs.Lines.{Answer}
 
 -- a kind whose sequence has states S, rows R and answers A
 pub record RowKind (S R A : Type 0) : Type 0 where
-  -- the forms of the columns of a row, and the row of their words
+  -- the forms of the columns of a row, the row of their words, and the words of a row
   pub rowForms : List ℕ
   pub rowOf : List ℕ → R
+  pub rowWords : R → List ℕ
+  -- every number of a row is finite
+  pub finite : R → Bool
   -- the state after a row, and the answer to it
   pub next : S → R → S
   pub answer : S → R → A
@@ -35,7 +38,7 @@ module _ {S R A : Type 0} (kind : RowKind S R A) where
   unfoldable pub readAnswered : S → RowLine R → Answer S
   readAnswered state Malformed = record { next = state; said = statusLine 5 }
   readAnswered state (Row row) =
-      record { next = kind .next state row; said = answerLine (kind .answerForms) (kind .answerWords (kind .answer state row)) }
+      record { next = kind .next state row; said = wordsLine (kind .answerForms) (kind .answerWords (kind .answer state row)) }
 
   unfoldable pub lineAnswered : S → List ℕ → Answer S
   lineAnswered state line = readAnswered state (rowLine line)

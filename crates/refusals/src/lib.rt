@@ -9,6 +9,7 @@ pub enum Refusal {
     NegativeTime,
     FallingTime,
     WindowFull,
+    NoRoom,
 }
 
 pub enum Verdict {
@@ -26,6 +27,7 @@ impl Refusal {
             Refusal::NegativeTime => 2,
             Refusal::FallingTime => 3,
             Refusal::WindowFull => 4,
+            Refusal::NoRoom => 10,
         }
     }
 }

@@ -2,19 +2,23 @@
 -- four dampers, or the status alone.
 use Prim.Native.Nat.{ℕ}
 use mathlib.Core.List.{List, [], _∷_}
+use mathlib.Core.Bool.{false}
 use lib.Dec.{eqb}
+use lib.IntN.{pos}
 use lib.ListN.{getD}
 use lib.Ieee.{binary64, ofBits, toBits}
 use Rattle.columns.specs.Forms.{float, yesNo, signed, unsigned}
-use Rattle.columns.specs.Word.{wordSigned}
+use Rattle.columns.specs.Word.{yesNoWord, wordSigned, signedWord}
 use Rattle.line_stream.specs.Lines.{Answer}
 use Rattle.line_stream.specs.RowKind.{RowKind, RowLine, rowLine, lineAnswered}
+use Rattle.row_writer.specs.Writing.{rowText}
 use Rattle.refusals.specs.Refusals.{refusalNumber}
 use Rattle.relief_fan_group.specs.declared.types.ReliefRow.{ReliefRow}
 use Rattle.relief_fan_group.specs.declared.types.ReliefState.{ReliefState}
 use Rattle.relief_fan_group.specs.declared.types.ReliefCommands.{ReliefCommands}
 use Rattle.relief_fan_group.specs.declared.types.ReliefAnswer.{ReliefAnswer}
 use Rattle.relief_fan_group.specs.declared.types.ReliefAnswer.the-variants as answer
+use Rattle.relief_fan_group.specs.Verdict.{numbersFinite}
 use Rattle.relief_fan_group.specs.Step.{reliefRow}
 
 -- ---- a row
@@ -45,6 +49,23 @@ reliefRowOf words = record {
   alarm = wordSigned (getD words 4 0) ∷ wordSigned (getD words 5 0) ∷ wordSigned (getD words 6 0) ∷ wordSigned (getD words 7 0) ∷ [];
   proof = eqb (getD words 8 0) 1 ∷ eqb (getD words 9 0) 1 ∷ eqb (getD words 10 0) 1 ∷ eqb (getD words 11 0) 1 ∷ [];
 }
+
+-- the words of a row
+unfoldable pub reliefRowWords : ReliefRow → List ℕ
+reliefRowWords row =
+    toBits binary64 (row .time)
+    ∷ yesNoWord (getD (row .supply) 0 false)
+    ∷ yesNoWord (getD (row .supply) 1 false)
+    ∷ toBits binary64 (row .pressure)
+    ∷ signedWord (getD (row .alarm) 0 (pos 0))
+    ∷ signedWord (getD (row .alarm) 1 (pos 0))
+    ∷ signedWord (getD (row .alarm) 2 (pos 0))
+    ∷ signedWord (getD (row .alarm) 3 (pos 0))
+    ∷ yesNoWord (getD (row .proof) 0 false)
+    ∷ yesNoWord (getD (row .proof) 1 false)
+    ∷ yesNoWord (getD (row .proof) 2 false)
+    ∷ yesNoWord (getD (row .proof) 3 false)
+    ∷ []
 
 -- ---- an answer
 
@@ -89,15 +110,20 @@ abbrev pub reliefKind : RowKind ReliefState ReliefRow ReliefAnswer
 reliefKind = record {
   rowForms = reliefRowForms;
   rowOf = reliefRowOf;
+  rowWords = reliefRowWords;
+  finite = numbersFinite;
   next = λ state row. reliefRow state row .state;
   answer = λ state row. reliefRow state row .answer;
   answerForms = reliefAnswerForms;
   answerWords = reliefAnswerWords;
 }
 
--- the row of a line
+-- the row of a line, and the line of a row with its newline
 abbrev pub reliefLine : List ℕ → RowLine ReliefRow
 reliefLine = rowLine reliefKind
+
+abbrev pub reliefRowText : ReliefRow → List ℕ
+reliefRowText = rowText reliefKind
 
 -- a line answered: the row's answer and the next state
 abbrev pub reliefAnswered : ReliefState → List ℕ → Answer ReliefState

@@ -4,19 +4,25 @@ ghost use lib.ListN.{length};
 ghost use Rattle.columns.specs.Forms.{wordList};
 ghost use Rattle.line_stream.specs.RowKind.{Stepped};
 ghost use Rattle.relief_fan_group.specs.Lent.{lentState};
-ghost use Rattle.relief_lines.specs.Relief.{reliefRowOf, reliefCommandWords, reliefAnswerWords, reliefKind};
+ghost use Rattle.row_writer.specs.Writing.{writeRow, LeftBy, ReadsBack};
+ghost use Rattle.relief_lines.specs.Relief.{reliefRowOf, reliefRowWords, reliefCommandWords, reliefAnswerWords, reliefKind};
 use columns::forms::Table;
 use columns::forms::Words;
 use columns::line::status_alone;
 use columns::word::of_pattern;
 use columns::word::pattern;
+use columns::word::signed_word;
 use columns::word::word_signed;
+use columns::word::yes_no_word;
 use moving_average::lent::Integrator;
 use relief_fan_group::lent::relief_row_lent;
 use relief_fan_group::types::ReliefAnswer;
 use relief_fan_group::types::ReliefBlocks;
 use relief_fan_group::types::ReliefCommands;
 use relief_fan_group::types::ReliefRow;
+use relief_fan_group::verdict::numbers_finite;
+use row_writer::RowWritten;
+use row_writer::write_row;
 
 // The columns of a row.
 pub const RELIEF_ROW: Table = Table {
@@ -57,7 +63,7 @@ pub const RELIEF_ANSWER: Table = Table {
 };
 
 // The row of its words.
-fn relief_row_of(words: [u64; 12]) -> ReliefRow
+pub fn relief_row_of(words: [u64; 12]) -> ReliefRow
     ensures { λ r. ⌜ r ≡ reliefRowOf words ⌝ }
 {
     let time = of_pattern(words[0]);
@@ -73,6 +79,41 @@ fn relief_row_of(words: [u64; 12]) -> ReliefRow
         alarm: [alarm1, alarm2, alarm3, alarm4],
         proof: [words[8] == 1, words[9] == 1, words[10] == 1, words[11] == 1],
     }
+}
+
+// The words of a row, whose line reads back as the row.
+fn relief_row_words(row: ReliefRow) -> Words
+    ensures { λ r. ⌜ r ≡ wordList (reliefRowWords row) ⌝ }
+    ensures { λ _. ⌜ ReadsBack reliefKind row ⌝ }
+{
+    Words {
+        count: 12,
+        words: [
+            pattern(row.time),
+            yes_no_word(row.supply[0]),
+            yes_no_word(row.supply[1]),
+            pattern(row.pressure),
+            signed_word(row.alarm[0]),
+            signed_word(row.alarm[1]),
+            signed_word(row.alarm[2]),
+            signed_word(row.alarm[3]),
+            yes_no_word(row.proof[0]),
+            yes_no_word(row.proof[1]),
+            yes_no_word(row.proof[2]),
+            yes_no_word(row.proof[3]),
+        ],
+    }
+}
+
+// Writes the line of a row, with its newline, from the place `at` on. Refused with 1, first, for a number that is not finite, and with 10, next, where
+// too few bytes are left; a refusal leaves the buffer as it was. The line reads back as the row, and a row that is refused for its time is written too.
+pub fn write_relief_row(out: &mut [u8], at: usize, row: ReliefRow) -> RowWritten
+    ensures { λ r. ⌜ LeftBy (writeRow reliefKind row (now (out .entry)) at) r (now (out .exit)) ⌝ }
+    ensures { λ _. ⌜ ReadsBack reliefKind row ⌝ }
+{
+    let finite = numbers_finite(row);
+    let words = relief_row_words(row);
+    write_row(out, at, RELIEF_ROW, words, finite)
 }
 
 // The words of an accepted row's answer: status 0 and the commands.

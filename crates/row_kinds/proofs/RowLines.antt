@@ -6,13 +6,13 @@ use mathlib.Core.Bool.{Bool, true, false}
 use native.Mathlib.Omega.{arith}
 use lib.Ieee.{Float}
 use lib.ListN.{length}
-use lib.Seq.{take-at}
 use Rattle.columns.specs.declared.forms.Table.{Table}
 use Rattle.columns.specs.declared.forms.Words.{Words}
 use Rattle.columns.specs.Column.{Wrote}
 use Rattle.columns.specs.Forms.{tableOf, wordList, formsOf, wordsIn, Read, WordsFit}
-use Rattle.columns.specs.Line.{answerLine}
+use Rattle.columns.specs.Line.{wordsLine}
 use Rattle.columns.proofs.Writing.{wrote-text}
+use Rattle.columns.proofs.Tables.{forms-are, words-are}
 use Rattle.line_stream.specs.Lines.{Answer, Answered}
 use Rattle.line_stream.specs.RowKind.{Stepped}
 use Rattle.line_stream.proofs.RowKinds.{SaidBy, row-answered, bad-answered}
@@ -136,13 +136,6 @@ module _ (k : Kind) (f : FreezeState) (n : Integrator) (b : ReliefBlocks) (e : E
 
 -- ---- the answer written
 
--- a table has its forms, and a list its words
-forms-are : (forms : List ℕ) (table : Table) → table ≡ tableOf forms → formsOf table ≡ forms
-forms-are forms table e = ap formsOf e ∙ take-at forms _ (length forms) refl
-
-words-are : (words : List ℕ) (answer : Words) → answer ≡ wordList words → wordsIn answer ≡ words
-words-are words answer e = ap wordsIn e ∙ take-at words _ (length words) refl
-
 pub read-by : (k : Kind) (table : Table) → table ≡ tableOf (rowFormsOf k) → (line : List ℕ) (good : Bool) (words : List ℕ) → Read (formsOf table) line good words
     → Read (rowFormsOf k) line good words
 read-by k table e line good words = subst (λ (f : List ℕ). Read f line good words) (forms-are (rowFormsOf k) table e)
@@ -172,13 +165,13 @@ module _ (k : Kind) (table : Table) (e : table ≡ tableOf (answerFormsOf k)) (a
         room = omega (arith, m, s .room);
       }
 
-  pub answer-written : (after : List ℕ) (place : ℕ) → Wrote out at (answerLine (formsOf table) (wordsIn answer)) (21 * answer .count + 1) after place
+  pub answer-written : (after : List ℕ) (place : ℕ) → Wrote out at (wordsLine (formsOf table) (wordsIn answer)) (21 * answer .count + 1) after place
       → Answered a out at next after place
   answer-written after place w = record {
     state = ap (λ (x : Answer Rows). x .next) (s .answered);
     text =
         wrote-text _ _ _
-        (ap (λ (f : List ℕ). answerLine f (wordsIn answer)) (forms-are (answerFormsOf k) table e)
-        ∙ ap (λ (l : List ℕ). answerLine (answerFormsOf k) l) (words-are (s .words) answer (s .is))
+        (ap (λ (f : List ℕ). wordsLine f (wordsIn answer)) (forms-are (answerFormsOf k) table e)
+        ∙ ap (λ (l : List ℕ). wordsLine (answerFormsOf k) l) (words-are (s .words) answer (s .is))
         ∙ ap (λ (x : Answer Rows). x .said) (s .answered)) w;
   }

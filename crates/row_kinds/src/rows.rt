@@ -8,7 +8,7 @@ use crate::kind::Phase;
 use crate::types::RowReader;
 use columns::forms::read_columns;
 use columns::line::status_alone;
-use columns::line::write_answer;
+use columns::line::write_line;
 use econ_lines::econ::econ_step;
 use freeze_lines::freeze::freeze_step;
 use line_stream::line_end;
@@ -74,7 +74,7 @@ pub fn pass_rows(
                 }
             }
         }
-        sent = write_answer(out, sent, answers, answer);
+        sent = write_line(out, sent, answers, answer);
         i = j + 1;
         j = line_end(text, i);
     }

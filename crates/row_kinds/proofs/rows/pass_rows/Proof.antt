@@ -66,8 +66,8 @@ read-columns-requires : tie.Need-read-columns-requires Inv-loop μ-loop
 read-columns-requires c κs =
     row-columns (c .before .before .before .before .before .before .before .before .before .before .before .args .kind) _ (c .before .before .before .before .before .before .before .before .row-table .ensures)
 
-write-answer-requires : tie.Need-write-answer-requires Inv-loop μ-loop
-write-answer-requires c κs =
+write-line-requires : tie.Need-write-line-requires Inv-loop μ-loop
+write-line-requires c κs =
     let d = c .before in
     let l = d .before .before .before .before .before .before .loop in
     let f = answer-fits rowsLine rows-room _ _ _ _ _ _ _ _ _ (l .inv .0) (s d .pre .room) (d .before .before .before .before .before .loop-test .taken) in
@@ -87,7 +87,7 @@ loop-again : tie.Need-loop-again Inv-loop μ-loop
 loop-again c =
     let d = c .before .before .before .before .before in
     let l = d .before .before .before .before .before .before .loop in
-    let a = answer-written (s d .args .kind) _ (d .before .before .before .before .before .before .before .before .before .before .before .answer-table .ensures) _ (line d) _ _ (done d .said) _ _ _ _ (c .before .before .before .write-answer .ensures) in (
+    let a = answer-written (s d .args .kind) _ (d .before .before .before .before .before .before .before .before .before .before .before .answer-table .ensures) _ (line d) _ _ (done d .said) _ _ _ _ (c .before .before .before .write-line .ensures) in (
       turn rowsLine rows-room _ _ _ _ _ _ _ _ _ (l .inv .0) (s d .pre .room) (d .before .before .before .before .before .loop-test .taken) _ _ _ _ a (c .line-end .ensures),
       done d .window,
       moved-on (s d .args .kind) _ _ _ (l .inv .2) (done d .moved),
@@ -177,7 +177,7 @@ pass-rows-spec =
     relief-step-requires
     enum-told-3
     econ-step-requires
-    write-answer-requires
+    write-line-requires
     add-i
     line-end-requires
     loop-less

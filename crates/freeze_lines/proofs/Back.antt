@@ -1,0 +1,75 @@
+-- A freeze row and its line: the line of a row is read as that row, and a line that is read as a row of finite numbers is the one that is written of it. Assumes nothing.
+use Prim.Native.Nat.{ℕ}
+use mathlib.Core.Path.{_≡_, refl}
+use mathlib.Core.List.{List, _++_}
+use mathlib.Core.Bool.{true}
+use lib.Ieee.{binary64, fits}
+use Rattle.columns.specs.Forms.{wordsOf, areWords}
+use Rattle.columns.specs.Line.{endOfLine}
+use Rattle.columns.proofs.Values.{float-word, float-back, yes-no-word, yes-no-back}
+use Rattle.line_stream.specs.RowKind.{Row}
+use Rattle.row_writer.specs.Writing.{ReadsBack}
+use Rattle.row_writer.proofs.RowsBack.{GivenBack, Rewritten, row-back, row-was}
+use Rattle.freeze_protection.specs.declared.types.FreezeRow.{FreezeRow}
+use Rattle.freeze_protection.specs.Verdict.{numbersFinite}
+use Rattle.freeze_lines.specs.Freeze.{freezeRowForms, freezeRowOf, freezeRowWords, freezeKind, freezeLine, freezeRowText}
+
+-- a row that 64 bits hold: each row of a program
+pub record Fits (row : FreezeRow) : Type 0 where
+  pub time : fits binary64 (row .time) ≡ true
+  pub «outdoor_damper_min_position» : fits binary64 (row .«outdoor_damper_min_position») ≡ true
+  pub «outdoor_damper» : fits binary64 (row .«outdoor_damper») ≡ true
+  pub «heating_coil» : fits binary64 (row .«heating_coil») ≡ true
+  pub «minimum_outdoor_damper» : fits binary64 (row .«minimum_outdoor_damper») ≡ true
+  pub «return_damper» : fits binary64 (row .«return_damper») ≡ true
+  pub «supply_air_temperature» : fits binary64 (row .«supply_air_temperature») ≡ true
+  pub «supply_fan_speed» : fits binary64 (row .«supply_fan_speed») ≡ true
+  pub «cooling_coil» : fits binary64 (row .«cooling_coil») ≡ true
+  pub «mixed_air_temperature» : fits binary64 (row .«mixed_air_temperature») ≡ true
+
+given-back : (row : FreezeRow) → Fits row → GivenBack freezeKind row
+unfolding freezeRowOf freezeRowWords areWords
+given-back row fit = record {
+  words =
+      rw (
+        float-word (row .time) (fit .time),
+        float-word (row .«outdoor_damper_min_position») (fit .«outdoor_damper_min_position»),
+        float-word (row .«outdoor_damper») (fit .«outdoor_damper»),
+        float-word (row .«heating_coil») (fit .«heating_coil»),
+        float-word (row .«minimum_outdoor_damper») (fit .«minimum_outdoor_damper»),
+        float-word (row .«return_damper») (fit .«return_damper»),
+        float-word (row .«supply_air_temperature») (fit .«supply_air_temperature»),
+        yes-no-word (row .«software_reset»),
+        yes-no-word (row .«supply_fan_status»),
+        float-word (row .«supply_fan_speed») (fit .«supply_fan_speed»),
+        float-word (row .«cooling_coil») (fit .«cooling_coil»),
+        float-word (row .«mixed_air_temperature») (fit .«mixed_air_temperature»),
+      );
+  back =
+      rw (
+        float-back (row .time) (fit .time),
+        float-back (row .«outdoor_damper_min_position») (fit .«outdoor_damper_min_position»),
+        float-back (row .«outdoor_damper») (fit .«outdoor_damper»),
+        float-back (row .«heating_coil») (fit .«heating_coil»),
+        float-back (row .«minimum_outdoor_damper») (fit .«minimum_outdoor_damper»),
+        float-back (row .«return_damper») (fit .«return_damper»),
+        float-back (row .«supply_air_temperature») (fit .«supply_air_temperature»),
+        yes-no-back (row .«software_reset»),
+        yes-no-back (row .«supply_fan_status»),
+        float-back (row .«supply_fan_speed») (fit .«supply_fan_speed»),
+        float-back (row .«cooling_coil») (fit .«cooling_coil»),
+        float-back (row .«mixed_air_temperature») (fit .«mixed_air_temperature»),
+      );
+}
+
+-- the line of a row is read as that row, patterns included
+pub freeze-row-back : (row : FreezeRow) → Fits row → ReadsBack freezeKind row
+freeze-row-back row fit = row-back freezeKind row (given-back row fit)
+
+rewritten : Rewritten freezeKind
+unfolding freezeRowOf freezeRowWords wordsOf numbersFinite
+rewritten = record { again = λ line. refl; finite = λ line. refl }
+
+-- and a line that is read as a row of finite numbers is the one that is written of it
+pub freeze-row-was : (line : List ℕ) (row : FreezeRow) → freezeLine line ≡ Row row → numbersFinite row ≡ true → line ++ endOfLine ≡ freezeRowText row
+freeze-row-was = row-was freezeKind rewritten

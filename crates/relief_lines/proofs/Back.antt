@@ -1,0 +1,92 @@
+-- A relief row and its line: the line of a row is read as that row, and a line that is read as a row of finite numbers is the one that is written of it. Assumes nothing.
+use Prim.Native.Nat.{ℕ, zero, suc, _+_, _<_}
+use mathlib.Core.Path.{_≡_, refl, sym, ap, _∙_}
+use mathlib.Core.List.{List, [], _∷_, _++_}
+use mathlib.Core.Bool.{true, false}
+use native.Mathlib.Omega.{arith}
+use lib.IntN.{pos}
+use lib.ListN.{length, getD, drop}
+use lib.Seq.{drop-cons, drop-length}
+use lib.Signed.{mag}
+use lib.Ieee.{binary64, fits}
+use Rattle.columns.specs.Forms.{wordsOf, areWords}
+use Rattle.columns.specs.Line.{endOfLine}
+use Rattle.columns.proofs.Values.{float-word, float-back, yes-no-word, yes-no-back, signed-word, signed-back}
+use Rattle.line_stream.specs.RowKind.{Row}
+use Rattle.row_writer.specs.Writing.{ReadsBack}
+use Rattle.row_writer.proofs.RowsBack.{GivenBack, Rewritten, row-back, row-was}
+use Rattle.relief_fan_group.specs.declared.types.ReliefRow.{ReliefRow}
+use Rattle.relief_fan_group.specs.Verdict.{numbersFinite}
+use Rattle.relief_lines.specs.Relief.{reliefRowForms, reliefRowOf, reliefRowWords, reliefKind, reliefLine, reliefRowText}
+
+-- a row that 64 bits hold, and its arrays of 2 and 4: each row of a program
+pub record Fits (row : ReliefRow) : Type 0 where
+  pub time : fits binary64 (row .time) ≡ true
+  pub supply : length (row .supply) ≡ 2
+  pub pressure : fits binary64 (row .pressure) ≡ true
+  pub alarm : length (row .alarm) ≡ 4
+  pub alarm-1 : mag (getD (row .alarm) 0 (pos 0)) < 9223372036854775808
+  pub alarm-2 : mag (getD (row .alarm) 1 (pos 0)) < 9223372036854775808
+  pub alarm-3 : mag (getD (row .alarm) 2 (pos 0)) < 9223372036854775808
+  pub alarm-4 : mag (getD (row .alarm) 3 (pos 0)) < 9223372036854775808
+  pub proof : length (row .proof) ≡ 4
+
+-- a list is that of its elements
+abbrev elements : {A : Type 0} → A → List A → ℕ → ℕ → List A
+elements d l k zero = []
+elements d l k (suc n) = getD l k d ∷ elements d l (suc k) n
+
+elements-are : {A : Type 0} (d : A) (l : List A) (k n : ℕ) → length l ≡ k + n → elements d l k n ≡ drop k l
+elements-are d l k zero h = let e : length l ≡ k = omega arith in sym (drop-length l) ∙ ap (λ (i : ℕ). drop i l) e
+elements-are d l k (suc n) h =
+    ap (λ t. getD l k d ∷ t) (elements-are d l (suc k) n (omega arith)) ∙ sym (drop-cons l k d (omega arith))
+
+given-back : (row : ReliefRow) → Fits row → GivenBack reliefKind row
+unfolding reliefRowOf reliefRowWords areWords
+given-back row fit = record {
+  words =
+      rw (
+        float-word (row .time) (fit .time),
+        yes-no-word (getD (row .supply) 0 false),
+        yes-no-word (getD (row .supply) 1 false),
+        float-word (row .pressure) (fit .pressure),
+        signed-word (getD (row .alarm) 0 (pos 0)) (fit .alarm-1),
+        signed-word (getD (row .alarm) 1 (pos 0)) (fit .alarm-2),
+        signed-word (getD (row .alarm) 2 (pos 0)) (fit .alarm-3),
+        signed-word (getD (row .alarm) 3 (pos 0)) (fit .alarm-4),
+        yes-no-word (getD (row .proof) 0 false),
+        yes-no-word (getD (row .proof) 1 false),
+        yes-no-word (getD (row .proof) 2 false),
+        yes-no-word (getD (row .proof) 3 false),
+      );
+  back =
+      rw (
+        float-back (row .time) (fit .time),
+        yes-no-back (getD (row .supply) 0 false),
+        yes-no-back (getD (row .supply) 1 false),
+        float-back (row .pressure) (fit .pressure),
+        signed-back (getD (row .alarm) 0 (pos 0)) (fit .alarm-1),
+        signed-back (getD (row .alarm) 1 (pos 0)) (fit .alarm-2),
+        signed-back (getD (row .alarm) 2 (pos 0)) (fit .alarm-3),
+        signed-back (getD (row .alarm) 3 (pos 0)) (fit .alarm-4),
+        yes-no-back (getD (row .proof) 0 false),
+        yes-no-back (getD (row .proof) 1 false),
+        yes-no-back (getD (row .proof) 2 false),
+        yes-no-back (getD (row .proof) 3 false),
+        elements-are false (row .supply) 0 2 (fit .supply),
+        elements-are (pos 0) (row .alarm) 0 4 (fit .alarm),
+        elements-are false (row .proof) 0 4 (fit .proof),
+      );
+}
+
+-- the line of a row is read as that row, patterns included
+pub relief-row-back : (row : ReliefRow) → Fits row → ReadsBack reliefKind row
+relief-row-back row fit = row-back reliefKind row (given-back row fit)
+
+rewritten : Rewritten reliefKind
+unfolding reliefRowOf reliefRowWords wordsOf numbersFinite
+rewritten = record { again = λ line. refl; finite = λ line. refl }
+
+-- and a line that is read as a row of finite numbers is the one that is written of it
+pub relief-row-was : (line : List ℕ) (row : ReliefRow) → reliefLine line ≡ Row row → numbersFinite row ≡ true → line ++ endOfLine ≡ reliefRowText row
+relief-row-was = row-was reliefKind rewritten

@@ -1,0 +1,2 @@
+-- Rows written as lines.
+pub mod Writing
