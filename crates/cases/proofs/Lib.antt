@@ -2,5 +2,6 @@
 pub mod EconomizerCases
 pub mod ReliefCases
 pub mod RowLinesExample
+pub mod RowsWritten
 pub mod Table
 pub mod Corners

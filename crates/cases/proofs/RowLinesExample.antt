@@ -57,7 +57,7 @@ unfolding phaseAfter firstText bytesOf
 kind-is = refl
 
 -- the row that the line is read as, and its commands
-row : EconomizerRow
+unfoldable pub row : EconomizerRow
 row = record {
   time = plusZero;
   «outdoor_airflow_normalized» = plusZero;

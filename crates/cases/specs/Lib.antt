@@ -4,4 +4,5 @@ pub mod Freeze
 pub mod Relief
 pub mod Economizer
 pub mod RowLines
+pub mod RowsWritten
 pub mod Cases

@@ -25,37 +25,22 @@ half = 9223372036854775808
 
 -- ---- the word of a value is a word of its form, and stands for that value
 
-pub float-word : (x : Float) → fits binary64 x ≡ true → isWord float (toBits binary64 x) ≡ true
+pub float-given : (x : Float) → fits binary64 x ≡ true → (isWord float (toBits binary64 x) ≡ true) × (ofBits binary64 (toBits binary64 x) ≡ x)
 unfolding isWord
-float-word x h = lt-ltb _ _ (toBits-lt binary64 x (rw h tt))
+float-given x h = (lt-ltb _ _ (toBits-lt binary64 x (rw h tt)), ofBits-toBits binary64 x (rw h tt))
 
-pub float-back : (x : Float) → fits binary64 x ≡ true → ofBits binary64 (toBits binary64 x) ≡ x
-float-back x h = ofBits-toBits binary64 x (rw h tt)
-
-pub yes-no-word : (b : Bool) → isWord yesNo (yesNoWord b) ≡ true
+pub yes-no-given : (b : Bool) → (isWord yesNo (yesNoWord b) ≡ true) × (eqb (yesNoWord b) 1 ≡ b)
 unfolding isWord
-yes-no-word true = refl
-yes-no-word false = refl
+yes-no-given true = (refl, refl)
+yes-no-given false = (refl, refl)
 
-pub yes-no-back : (b : Bool) → eqb (yesNoWord b) 1 ≡ b
-yes-no-back true = refl
-yes-no-back false = refl
-
-pub signed-word : (z : ℤ) → mag z < half → isWord signed (signedWord z) ≡ true
-unfolding isWord
-signed-word z h = lt-ltb _ _ (small z h)
-  where
-    small : (y : ℤ) → mag y < half → signedWord y < limit
-    small (pos n) l = omega arith
-    small (negsuc k) l = omega arith
-
-pub signed-back : (z : ℤ) → mag z < half → wordSigned (signedWord z) ≡ z
-unfolding wordSigned
-signed-back (pos n) h = simp (lt-ltb _ _ h)
-signed-back (negsuc k) h =
+pub signed-given : (z : ℤ) → mag z < half → (isWord signed (signedWord z) ≡ true) × (wordSigned (signedWord z) ≡ z)
+unfolding isWord wordSigned
+signed-given (pos n) h = (lt-ltb n limit (omega arith), simp (lt-ltb _ _ h))
+signed-given (negsuc k) h =
     let l : half ≤ 18446744073709551615 - k = omega arith in
     let e : 18446744073709551615 - (18446744073709551615 - k) ≡ k = omega arith in
-    simp (le-ltb _ _ l, e)
+    (lt-ltb (18446744073709551615 - k) limit (omega arith), simp (le-ltb _ _ l, e))
 
 -- ---- the word of the value that a word stands for
 

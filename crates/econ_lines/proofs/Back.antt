@@ -7,7 +7,7 @@ use lib.Signed.{mag}
 use lib.Ieee.{binary64, fits}
 use Rattle.columns.specs.Forms.{wordsOf, areWords}
 use Rattle.columns.specs.Line.{endOfLine}
-use Rattle.columns.proofs.Values.{float-word, float-back, yes-no-word, yes-no-back, signed-word, signed-back}
+use Rattle.columns.proofs.Values.{float-given, yes-no-given, signed-given}
 use Rattle.line_stream.specs.RowKind.{Row}
 use Rattle.row_writer.specs.Writing.{ReadsBack}
 use Rattle.row_writer.proofs.RowsBack.{GivenBack, Rewritten, row-back, row-was}
@@ -27,30 +27,19 @@ pub record Fits (row : EconomizerRow) : Type 0 where
 
 given-back : (row : EconomizerRow) → Fits row → GivenBack econKind row
 unfolding econRowOf econRowWords areWords
-given-back row fit = record {
-  words =
-      rw (
-        float-word (row .time) (fit .time),
-        float-word (row .«outdoor_airflow_normalized») (fit .«outdoor_airflow_normalized»),
-        float-word (row .«minimum_outdoor_airflow_setpoint_normalized») (fit .«minimum_outdoor_airflow_setpoint_normalized»),
-        float-word (row .«supply_temperature_signal») (fit .«supply_temperature_signal»),
-        float-word (row .«outdoor_air_temperature») (fit .«outdoor_air_temperature»),
-        yes-no-word (row .«supply_fan_status»),
-        signed-word (row .«operation_mode») (fit .«operation_mode»),
-        signed-word (row .«freeze_protection_stage») (fit .«freeze_protection_stage»),
-      );
-  back =
-      rw (
-        float-back (row .time) (fit .time),
-        float-back (row .«outdoor_airflow_normalized») (fit .«outdoor_airflow_normalized»),
-        float-back (row .«minimum_outdoor_airflow_setpoint_normalized») (fit .«minimum_outdoor_airflow_setpoint_normalized»),
-        float-back (row .«supply_temperature_signal») (fit .«supply_temperature_signal»),
-        float-back (row .«outdoor_air_temperature») (fit .«outdoor_air_temperature»),
-        yes-no-back (row .«supply_fan_status»),
-        signed-back (row .«operation_mode») (fit .«operation_mode»),
-        signed-back (row .«freeze_protection_stage») (fit .«freeze_protection_stage»),
-      );
-}
+given-back row fit =
+    let w1 = float-given (row .time) (fit .time) in
+    let w2 = float-given (row .«outdoor_airflow_normalized») (fit .«outdoor_airflow_normalized») in
+    let w3 = float-given (row .«minimum_outdoor_airflow_setpoint_normalized») (fit .«minimum_outdoor_airflow_setpoint_normalized») in
+    let w4 = float-given (row .«supply_temperature_signal») (fit .«supply_temperature_signal») in
+    let w5 = float-given (row .«outdoor_air_temperature») (fit .«outdoor_air_temperature») in
+    let w6 = yes-no-given (row .«supply_fan_status») in
+    let w7 = signed-given (row .«operation_mode») (fit .«operation_mode») in
+    let w8 = signed-given (row .«freeze_protection_stage») (fit .«freeze_protection_stage») in
+    record {
+      words = rw (w1 .0, w2 .0, w3 .0, w4 .0, w5 .0, w6 .0, w7 .0, w8 .0);
+      back = rw (w1 .1, w2 .1, w3 .1, w4 .1, w5 .1, w6 .1, w7 .1, w8 .1);
+    }
 
 -- the line of a row is read as that row, patterns included
 pub econ-row-back : (row : EconomizerRow) → Fits row → ReadsBack econKind row

@@ -117,7 +117,7 @@ fn command_words(commands: EconomizerCommands) -> Words
     Words {
         count: 5,
         words: [
-            0,
+            0, // status
             pattern(commands.outdoor_damper_min_limit),
             yes_no_word(commands.minimum_outdoor_air_loop_enabled),
             pattern(commands.outdoor_damper_command),

@@ -6,7 +6,7 @@ use mathlib.Core.Bool.{true}
 use lib.Ieee.{binary64, fits}
 use Rattle.columns.specs.Forms.{wordsOf, areWords}
 use Rattle.columns.specs.Line.{endOfLine}
-use Rattle.columns.proofs.Values.{float-word, float-back, yes-no-word, yes-no-back}
+use Rattle.columns.proofs.Values.{float-given, yes-no-given}
 use Rattle.line_stream.specs.RowKind.{Row}
 use Rattle.row_writer.specs.Writing.{ReadsBack}
 use Rattle.row_writer.proofs.RowsBack.{GivenBack, Rewritten, row-back, row-was}
@@ -29,38 +29,23 @@ pub record Fits (row : FreezeRow) : Type 0 where
 
 given-back : (row : FreezeRow) → Fits row → GivenBack freezeKind row
 unfolding freezeRowOf freezeRowWords areWords
-given-back row fit = record {
-  words =
-      rw (
-        float-word (row .time) (fit .time),
-        float-word (row .«outdoor_damper_min_position») (fit .«outdoor_damper_min_position»),
-        float-word (row .«outdoor_damper») (fit .«outdoor_damper»),
-        float-word (row .«heating_coil») (fit .«heating_coil»),
-        float-word (row .«minimum_outdoor_damper») (fit .«minimum_outdoor_damper»),
-        float-word (row .«return_damper») (fit .«return_damper»),
-        float-word (row .«supply_air_temperature») (fit .«supply_air_temperature»),
-        yes-no-word (row .«software_reset»),
-        yes-no-word (row .«supply_fan_status»),
-        float-word (row .«supply_fan_speed») (fit .«supply_fan_speed»),
-        float-word (row .«cooling_coil») (fit .«cooling_coil»),
-        float-word (row .«mixed_air_temperature») (fit .«mixed_air_temperature»),
-      );
-  back =
-      rw (
-        float-back (row .time) (fit .time),
-        float-back (row .«outdoor_damper_min_position») (fit .«outdoor_damper_min_position»),
-        float-back (row .«outdoor_damper») (fit .«outdoor_damper»),
-        float-back (row .«heating_coil») (fit .«heating_coil»),
-        float-back (row .«minimum_outdoor_damper») (fit .«minimum_outdoor_damper»),
-        float-back (row .«return_damper») (fit .«return_damper»),
-        float-back (row .«supply_air_temperature») (fit .«supply_air_temperature»),
-        yes-no-back (row .«software_reset»),
-        yes-no-back (row .«supply_fan_status»),
-        float-back (row .«supply_fan_speed») (fit .«supply_fan_speed»),
-        float-back (row .«cooling_coil») (fit .«cooling_coil»),
-        float-back (row .«mixed_air_temperature») (fit .«mixed_air_temperature»),
-      );
-}
+given-back row fit =
+    let w1 = float-given (row .time) (fit .time) in
+    let w2 = float-given (row .«outdoor_damper_min_position») (fit .«outdoor_damper_min_position») in
+    let w3 = float-given (row .«outdoor_damper») (fit .«outdoor_damper») in
+    let w4 = float-given (row .«heating_coil») (fit .«heating_coil») in
+    let w5 = float-given (row .«minimum_outdoor_damper») (fit .«minimum_outdoor_damper») in
+    let w6 = float-given (row .«return_damper») (fit .«return_damper») in
+    let w7 = float-given (row .«supply_air_temperature») (fit .«supply_air_temperature») in
+    let w8 = yes-no-given (row .«software_reset») in
+    let w9 = yes-no-given (row .«supply_fan_status») in
+    let w10 = float-given (row .«supply_fan_speed») (fit .«supply_fan_speed») in
+    let w11 = float-given (row .«cooling_coil») (fit .«cooling_coil») in
+    let w12 = float-given (row .«mixed_air_temperature») (fit .«mixed_air_temperature») in
+    record {
+      words = rw (w1 .0, w2 .0, w3 .0, w4 .0, w5 .0, w6 .0, w7 .0, w8 .0, w9 .0, w10 .0, w11 .0, w12 .0);
+      back = rw (w1 .1, w2 .1, w3 .1, w4 .1, w5 .1, w6 .1, w7 .1, w8 .1, w9 .1, w10 .1, w11 .1, w12 .1);
+    }
 
 -- the line of a row is read as that row, patterns included
 pub freeze-row-back : (row : FreezeRow) → Fits row → ReadsBack freezeKind row

@@ -119,7 +119,7 @@ fn command_words(commands: FreezeCommands) -> Words
     Words {
         count: 12,
         words: [
-            0,
+            0, // status
             commands.freeze_protection_stage,
             yes_no_word(commands.chilled_water_pump_enable),
             pattern(commands.return_damper_command),

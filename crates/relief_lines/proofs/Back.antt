@@ -11,7 +11,7 @@ use lib.Signed.{mag}
 use lib.Ieee.{binary64, fits}
 use Rattle.columns.specs.Forms.{wordsOf, areWords}
 use Rattle.columns.specs.Line.{endOfLine}
-use Rattle.columns.proofs.Values.{float-word, float-back, yes-no-word, yes-no-back, signed-word, signed-back}
+use Rattle.columns.proofs.Values.{float-given, yes-no-given, signed-given}
 use Rattle.line_stream.specs.RowKind.{Row}
 use Rattle.row_writer.specs.Writing.{ReadsBack}
 use Rattle.row_writer.proofs.RowsBack.{GivenBack, Rewritten, row-back, row-was}
@@ -43,41 +43,39 @@ elements-are d l k (suc n) h =
 
 given-back : (row : ReliefRow) → Fits row → GivenBack reliefKind row
 unfolding reliefRowOf reliefRowWords areWords
-given-back row fit = record {
-  words =
-      rw (
-        float-word (row .time) (fit .time),
-        yes-no-word (getD (row .supply) 0 false),
-        yes-no-word (getD (row .supply) 1 false),
-        float-word (row .pressure) (fit .pressure),
-        signed-word (getD (row .alarm) 0 (pos 0)) (fit .alarm-1),
-        signed-word (getD (row .alarm) 1 (pos 0)) (fit .alarm-2),
-        signed-word (getD (row .alarm) 2 (pos 0)) (fit .alarm-3),
-        signed-word (getD (row .alarm) 3 (pos 0)) (fit .alarm-4),
-        yes-no-word (getD (row .proof) 0 false),
-        yes-no-word (getD (row .proof) 1 false),
-        yes-no-word (getD (row .proof) 2 false),
-        yes-no-word (getD (row .proof) 3 false),
-      );
-  back =
-      rw (
-        float-back (row .time) (fit .time),
-        yes-no-back (getD (row .supply) 0 false),
-        yes-no-back (getD (row .supply) 1 false),
-        float-back (row .pressure) (fit .pressure),
-        signed-back (getD (row .alarm) 0 (pos 0)) (fit .alarm-1),
-        signed-back (getD (row .alarm) 1 (pos 0)) (fit .alarm-2),
-        signed-back (getD (row .alarm) 2 (pos 0)) (fit .alarm-3),
-        signed-back (getD (row .alarm) 3 (pos 0)) (fit .alarm-4),
-        yes-no-back (getD (row .proof) 0 false),
-        yes-no-back (getD (row .proof) 1 false),
-        yes-no-back (getD (row .proof) 2 false),
-        yes-no-back (getD (row .proof) 3 false),
+given-back row fit =
+    let w1 = float-given (row .time) (fit .time) in
+    let w2 = yes-no-given (getD (row .supply) 0 false) in
+    let w3 = yes-no-given (getD (row .supply) 1 false) in
+    let w4 = float-given (row .pressure) (fit .pressure) in
+    let w5 = signed-given (getD (row .alarm) 0 (pos 0)) (fit .alarm-1) in
+    let w6 = signed-given (getD (row .alarm) 1 (pos 0)) (fit .alarm-2) in
+    let w7 = signed-given (getD (row .alarm) 2 (pos 0)) (fit .alarm-3) in
+    let w8 = signed-given (getD (row .alarm) 3 (pos 0)) (fit .alarm-4) in
+    let w9 = yes-no-given (getD (row .proof) 0 false) in
+    let w10 = yes-no-given (getD (row .proof) 1 false) in
+    let w11 = yes-no-given (getD (row .proof) 2 false) in
+    let w12 = yes-no-given (getD (row .proof) 3 false) in
+    record {
+      words = rw (w1 .0, w2 .0, w3 .0, w4 .0, w5 .0, w6 .0, w7 .0, w8 .0, w9 .0, w10 .0, w11 .0, w12 .0);
+      back = rw (
+        w1 .1,
+        w2 .1,
+        w3 .1,
+        w4 .1,
+        w5 .1,
+        w6 .1,
+        w7 .1,
+        w8 .1,
+        w9 .1,
+        w10 .1,
+        w11 .1,
+        w12 .1,
         elements-are false (row .supply) 0 2 (fit .supply),
         elements-are (pos 0) (row .alarm) 0 4 (fit .alarm),
         elements-are false (row .proof) 0 4 (fit .proof),
       );
-}
+    }
 
 -- the line of a row is read as that row, patterns included
 pub relief-row-back : (row : ReliefRow) → Fits row → ReadsBack reliefKind row

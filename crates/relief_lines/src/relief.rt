@@ -123,7 +123,7 @@ fn command_words(commands: ReliefCommands) -> Words
     Words {
         count: 10,
         words: [
-            0,
+            0, // status
             pattern(commands.averaged_pressure),
             pattern(commands.fan_speed_1),
             pattern(commands.fan_speed_2),

@@ -12,7 +12,7 @@ use Rattle.columns.proofs.Plain.{plain, plain-line}
 use Rattle.line_stream.specs.Lines.{Answer, Fed, feed}
 use Rattle.line_stream.specs.RowKind.{RowKind, RowLine, Row, rowLine, readAnswered, lineAnswered}
 use Rattle.line_stream.proofs.Cutting.{after, feed-empty, feed-newline, feed-byte}
-use Rattle.row_writer.specs.Writing.{rowText, ReadsBack}
+use Rattle.row_writer.specs.Writing.{ReadsBack, rowsText, rowsAnswered, AllReadBack}
 
 not-newline : (b : ℕ) → not (eqb b newline) ≡ true → b ≡ newline → ⊥
 not-newline b h = eqb-false b newline (not-true (eqb b newline) h)
@@ -31,34 +31,17 @@ feed-plain answer q p (b ∷ l) rest h =
     ∙ ap (λ (x : List ℕ). feed answer q x rest) (append-assoc p (b ∷ []) l)
 
 module _ {S R A : Type 0} (kind : RowKind S R A) where
-  -- the lines of rows, one after another
-  abbrev pub rowsText : List R → List ℕ
-  rowsText [] = []
-  rowsText (row ∷ rows) = rowText kind row ++ rowsText rows
-
-  -- rows answered in turn: what each gives, from the state that the one before left
-  abbrev pub rowsAnswered : S → List R → Answer S
-  rowsAnswered state [] = record { next = state; said = [] }
-  rowsAnswered state (row ∷ rows) =
-      let a = readAnswered kind state (Row row) in
-      let b = rowsAnswered (a .next) rows in
-      record { next = b .next; said = a .said ++ b .said }
-
-  -- the line of each row is read as that row
-  abbrev pub AllReadBack : List R → Type 0
-  AllReadBack [] = Unit {0}
-  AllReadBack (row ∷ rows) = ReadsBack kind row × AllReadBack rows
-
-  pub rows-fed : (state : S) (rows : List R) → AllReadBack rows
-      → feed (lineAnswered kind) state [] (rowsText rows) ≡ record { next = rowsAnswered state rows .next; part = []; said = rowsAnswered state rows .said }
+  pub rows-fed : (state : S) (rows : List R) → AllReadBack kind rows
+      → feed (lineAnswered kind) state [] (rowsText kind rows)
+      ≡ record { next = rowsAnswered kind state rows .next; part = []; said = rowsAnswered kind state rows .said }
   unfolding wordsLine lineAnswered
   rows-fed state [] h = feed-empty (lineAnswered kind) state []
   rows-fed state (row ∷ rows) h =
       let line : List ℕ = lineOf (kind .rowForms) (kind .rowWords row) in
       let a : Answer S = readAnswered kind state (Row row) in
       let e : lineAnswered kind state line ≡ a = ap (λ (x : RowLine R). readAnswered kind state x) (h .0) in
-      ap (λ (x : List ℕ). feed (lineAnswered kind) state [] x) (append-assoc line endOfLine (rowsText rows))
-      ∙ feed-plain (lineAnswered kind) state [] line (endOfLine ++ rowsText rows) (plain-line (kind .rowForms) (kind .rowWords row))
-      ∙ feed-newline (lineAnswered kind) state line newline (rowsText rows) refl
-      ∙ ap (λ (x : Answer S). after (lineAnswered kind) (x .said) (feed (lineAnswered kind) (x .next) [] (rowsText rows))) e
+      ap (λ (x : List ℕ). feed (lineAnswered kind) state [] x) (append-assoc line endOfLine (rowsText kind rows))
+      ∙ feed-plain (lineAnswered kind) state [] line (endOfLine ++ rowsText kind rows) (plain-line (kind .rowForms) (kind .rowWords row))
+      ∙ feed-newline (lineAnswered kind) state line newline (rowsText kind rows) refl
+      ∙ ap (λ (x : Answer S). after (lineAnswered kind) (x .said) (feed (lineAnswered kind) (x .next) [] (rowsText kind rows))) e
       ∙ ap (λ (x : Fed S). after (lineAnswered kind) (a .said) x) (rows-fed (a .next) rows (h .1))
