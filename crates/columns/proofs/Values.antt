@@ -13,15 +13,11 @@ use lib.Ieee.Scale.{finite}
 use lib.Ieee.Bits.{ofBits-toBits, toBits-ofBits, toBits-lt}
 use borrow.Author.Tests.{ltb-true, ltb-false, eqb-true, eqb-false, lt-ltb, le-ltb}
 use Rattle.columns.specs.Scan.{limit}
-use Rattle.columns.specs.Word.{yesNoWord, wordSigned, signedWord}
+use Rattle.columns.specs.Word.{half, lastWord, yesNoWord, wordSigned, signedWord}
 use Rattle.columns.specs.Forms.{float, yesNo, signed, isWord, areWords}
 use Rattle.columns.proofs.Scanning.{by-test}
 use Rattle.columns.proofs.Inverse.{both}
 use Rattle.columns.proofs.Words.{word-small}
-
--- half of the words: those from here on stand for negative numbers
-abbrev half : ℕ
-half = 9223372036854775808
 
 -- ---- the word of a value is a word of its form, and stands for that value
 
@@ -38,9 +34,9 @@ pub signed-given : (z : ℤ) → mag z < half → (isWord signed (signedWord z) 
 unfolding isWord wordSigned
 signed-given (pos n) h = (lt-ltb n limit (omega arith), simp (lt-ltb _ _ h))
 signed-given (negsuc k) h =
-    let l : half ≤ 18446744073709551615 - k = omega arith in
-    let e : 18446744073709551615 - (18446744073709551615 - k) ≡ k = omega arith in
-    (lt-ltb (18446744073709551615 - k) limit (omega arith), simp (le-ltb _ _ l, e))
+    let l : half ≤ lastWord - k = omega arith in
+    let e : lastWord - (lastWord - k) ≡ k = omega arith in
+    (lt-ltb (lastWord - k) limit (omega arith), simp (le-ltb _ _ l, e))
 
 -- ---- the word of the value that a word stands for
 

@@ -12,14 +12,10 @@ use borrow.Author.Tests.{ltb-true, leb-true, leb-false, eqb-true, lt-ltb, le-ltb
 use Rattle.columns.specs.Column.{column}
 use Rattle.columns.specs.Scan.{same, decimal, hasMinus, limit, scan}
 use Rattle.columns.specs.declared.scan.Scanned.the-variants as scanned
-use Rattle.columns.specs.Word.{wordSigned}
+use Rattle.columns.specs.Word.{half, wordSigned}
 use Rattle.columns.specs.Forms.{float, yesNo, signed, isWord, isNegative, magnitude, wordColumn, wordIn, noWord, aWord, readWord, largest}
 use Rattle.columns.proofs.Scanning.{by-test}
 use Rattle.columns.proofs.Inverse.{both, same-refl, same-eq, column-decimal, column-minus, length-column, scan-column, scan-was}
-
--- half of the words: those from here on stand for negative numbers
-abbrev half : ℕ
-half = 9223372036854775808
 
 -- ---- a word and its column
 

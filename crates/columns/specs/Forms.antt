@@ -8,6 +8,7 @@ use lib.Dec.{ltb, leb, eqb}
 use lib.ListN.{length, take, drop, replicate}
 use Rattle.columns.specs.Column.{width, column}
 use Rattle.columns.specs.Scan.{same, decimal, hasMinus, limit}
+use Rattle.columns.specs.Word.{half}
 use Rattle.columns.specs.declared.forms.Word.{Word}
 use Rattle.columns.specs.declared.forms.Table.{Table}
 use Rattle.columns.specs.declared.forms.Words.{Words}
@@ -36,9 +37,9 @@ unsigned = 117
 unfoldable pub isWord : ℕ → ℕ → Bool
 isWord form word = ltb word (cond (eqb form yesNo) 2 limit)
 
--- the words of negative numbers are those from 2^63 on
+-- the words of negative numbers are those from half of them on
 abbrev pub isNegative : ℕ → ℕ → Bool
-isNegative form word = eqb form signed && leb 9223372036854775808 word
+isNegative form word = eqb form signed && leb half word
 
 -- the number of a word without its sign
 abbrev pub magnitude : ℕ → ℕ → ℕ

@@ -8,10 +8,18 @@ use lib.IntN.{ℤ, pos, negsuc}
 abbrev pub yesNoWord : Bool → ℕ
 yesNoWord b = cond b 1 0
 
+-- 2^63: half of the words, and those from here on stand for negative numbers; and the last word, which stands for −1
+abbrev pub half : ℕ
+half = 9223372036854775808
+
+abbrev pub lastWord : ℕ
+lastWord = 18446744073709551615
+
 -- two's complement
 unfoldable pub wordSigned : ℕ → ℤ
-wordSigned word = cond (ltb word 9223372036854775808) (pos word) (negsuc (18446744073709551615 - word))
+wordSigned word = cond (ltb word half) (pos word) (negsuc (lastWord - word))
 
+-- and the other way
 abbrev pub signedWord : ℤ → ℕ
 signedWord (pos n) = n
-signedWord (negsuc k) = 18446744073709551615 - k
+signedWord (negsuc k) = lastWord - k

@@ -7,6 +7,7 @@ use lib.Signed.{mag}
 use lib.Ieee.{binary64, fits}
 use Rattle.columns.specs.Forms.{wordsOf, areWords}
 use Rattle.columns.specs.Line.{endOfLine}
+use Rattle.columns.specs.Word.{half}
 use Rattle.columns.proofs.Values.{float-given, yes-no-given, signed-given}
 use Rattle.line_stream.specs.RowKind.{Row}
 use Rattle.row_writer.specs.Writing.{ReadsBack}
@@ -22,8 +23,8 @@ pub record Fits (row : EconomizerRow) : Type 0 where
   pub «minimum_outdoor_airflow_setpoint_normalized» : fits binary64 (row .«minimum_outdoor_airflow_setpoint_normalized») ≡ true
   pub «supply_temperature_signal» : fits binary64 (row .«supply_temperature_signal») ≡ true
   pub «outdoor_air_temperature» : fits binary64 (row .«outdoor_air_temperature») ≡ true
-  pub «operation_mode» : mag (row .«operation_mode») < 9223372036854775808
-  pub «freeze_protection_stage» : mag (row .«freeze_protection_stage») < 9223372036854775808
+  pub «operation_mode» : mag (row .«operation_mode») < half
+  pub «freeze_protection_stage» : mag (row .«freeze_protection_stage») < half
 
 given-back : (row : EconomizerRow) → Fits row → GivenBack econKind row
 unfolding econRowOf econRowWords areWords

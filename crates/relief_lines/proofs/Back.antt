@@ -11,6 +11,7 @@ use lib.Signed.{mag}
 use lib.Ieee.{binary64, fits}
 use Rattle.columns.specs.Forms.{wordsOf, areWords}
 use Rattle.columns.specs.Line.{endOfLine}
+use Rattle.columns.specs.Word.{half}
 use Rattle.columns.proofs.Values.{float-given, yes-no-given, signed-given}
 use Rattle.line_stream.specs.RowKind.{Row}
 use Rattle.row_writer.specs.Writing.{ReadsBack}
@@ -25,10 +26,10 @@ pub record Fits (row : ReliefRow) : Type 0 where
   pub supply : length (row .supply) ≡ 2
   pub pressure : fits binary64 (row .pressure) ≡ true
   pub alarm : length (row .alarm) ≡ 4
-  pub alarm-1 : mag (getD (row .alarm) 0 (pos 0)) < 9223372036854775808
-  pub alarm-2 : mag (getD (row .alarm) 1 (pos 0)) < 9223372036854775808
-  pub alarm-3 : mag (getD (row .alarm) 2 (pos 0)) < 9223372036854775808
-  pub alarm-4 : mag (getD (row .alarm) 3 (pos 0)) < 9223372036854775808
+  pub alarm-1 : mag (getD (row .alarm) 0 (pos 0)) < half
+  pub alarm-2 : mag (getD (row .alarm) 1 (pos 0)) < half
+  pub alarm-3 : mag (getD (row .alarm) 2 (pos 0)) < half
+  pub alarm-4 : mag (getD (row .alarm) 3 (pos 0)) < half
   pub proof : length (row .proof) ≡ 4
 
 -- a list is that of its elements
