@@ -24,7 +24,7 @@ class Status(enum.IntEnum):
     SIGNED_TIME = 2, KINDS, "the time's sign bit is set, as in -0.0"
     EARLIER = 3, KINDS, 'the time is below that of the last accepted row; an equal time is taken'
     WINDOW_FULL = 4, ['relief'], 'the window, with old points dropped, holds 512, and the last is of another time'
-    NO_ROOM = 10, [], 'the buffer has fewer bytes than the line with its newline'
+    NO_ROOM = 10, [], 'what is left of the buffer is shorter than the line and its newline'
     ACCEPTED = 0, KINDS, 'the row is accepted, and its commands follow'
 
 

@@ -1,4 +1,4 @@
--- An economizer row and its line: the line of a row is read as that row, and a line that is read as a row of finite numbers is the one that is written of it. Assumes nothing.
+-- An economizer row and its line: the line of a row is read as that row, and a row of finite numbers is read from no other line. Assumes nothing.
 use Prim.Native.Nat.{ℕ, _<_}
 use mathlib.Core.Path.{_≡_, refl}
 use mathlib.Core.List.{List, _++_}
@@ -50,6 +50,6 @@ rewritten : Rewritten econKind
 unfolding econRowOf econRowWords wordsOf numbersFinite
 rewritten = record { again = λ line. refl; finite = λ line. refl }
 
--- and a line that is read as a row of finite numbers is the one that is written of it
+-- and a row of finite numbers is read from no line but its own
 pub econ-row-was : (line : List ℕ) (row : EconomizerRow) → econLine line ≡ Row row → numbersFinite row ≡ true → line ++ endOfLine ≡ econRowText row
 econ-row-was = row-was econKind rewritten

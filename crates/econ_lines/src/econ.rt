@@ -99,8 +99,8 @@ fn econ_row_words(row: EconomizerRow) -> Words
     }
 }
 
-// Writes the line of a row, with its newline, from the place `at` on. Refused with 1, first, for a number that is not finite, and with 10, next, where
-// too few bytes are left; a refusal leaves the buffer as it was. The line reads back as the row, and a row that is refused for its time is written too.
+// Writes the line of a row, with its newline, from the place `at` on. A number that is not finite is refused (1), or else a line that does not fit (10),
+// and no byte changes then. What is written reads back as the row. The time is not looked at: what the sequence would refuse for it is written too.
 pub fn write_econ_row(out: &mut [u8], at: usize, row: EconomizerRow) -> RowWritten
     ensures { λ r. ⌜ LeftBy (writeRow econKind row (now (out .entry)) at) r (now (out .exit)) ⌝ }
     ensures { λ _. ⌜ ReadsBack econKind row ⌝ }

@@ -1,4 +1,4 @@
--- A freeze row and its line: the line of a row is read as that row, and a line that is read as a row of finite numbers is the one that is written of it. Assumes nothing.
+-- A freeze row and its line: the line of a row is read as that row, and a row of finite numbers is read from no other line. Assumes nothing.
 use Prim.Native.Nat.{ℕ}
 use mathlib.Core.Path.{_≡_, refl}
 use mathlib.Core.List.{List, _++_}
@@ -55,6 +55,6 @@ rewritten : Rewritten freezeKind
 unfolding freezeRowOf freezeRowWords wordsOf numbersFinite
 rewritten = record { again = λ line. refl; finite = λ line. refl }
 
--- and a line that is read as a row of finite numbers is the one that is written of it
+-- and a row of finite numbers is read from no line but its own
 pub freeze-row-was : (line : List ℕ) (row : FreezeRow) → freezeLine line ≡ Row row → numbersFinite row ≡ true → line ++ endOfLine ≡ freezeRowText row
 freeze-row-was = row-was freezeKind rewritten

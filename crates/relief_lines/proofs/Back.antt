@@ -1,4 +1,4 @@
--- A relief row and its line: the line of a row is read as that row, and a line that is read as a row of finite numbers is the one that is written of it. Assumes nothing.
+-- A relief row and its line: the line of a row is read as that row, and a row of finite numbers is read from no other line. Assumes nothing.
 use Prim.Native.Nat.{ℕ, zero, suc, _+_, _<_}
 use mathlib.Core.Path.{_≡_, refl, sym, ap, _∙_}
 use mathlib.Core.List.{List, [], _∷_, _++_}
@@ -86,6 +86,6 @@ rewritten : Rewritten reliefKind
 unfolding reliefRowOf reliefRowWords wordsOf numbersFinite
 rewritten = record { again = λ line. refl; finite = λ line. refl }
 
--- and a line that is read as a row of finite numbers is the one that is written of it
+-- and a row of finite numbers is read from no line but its own
 pub relief-row-was : (line : List ℕ) (row : ReliefRow) → reliefLine line ≡ Row row → numbersFinite row ≡ true → line ++ endOfLine ≡ reliefRowText row
 relief-row-was = row-was reliefKind rewritten

@@ -1,5 +1,4 @@
--- A row and its line, for any kind: the line of a row is read as that row, and a line that is read as a row of finite numbers is the one that is written of it.
--- Assumes nothing.
+-- A row and its line, for any kind: the line of a row is read as that row, and a row of finite numbers is read from no other line. Assumes nothing.
 use Prim.Native.Nat.{ℕ}
 use mathlib.Core.Path.{_≡_, refl, sym, ap, _∙_}
 use mathlib.Core.List.{List, _++_}
@@ -31,7 +30,7 @@ module _ {S R A : Type 0} (kind : RowKind S R A) where
     pub again : (line : List ℕ) → kind .rowWords (kind .rowOf (wordsOf (kind .rowForms) line)) ≡ allAgain (kind .rowForms) (wordsOf (kind .rowForms) line)
     pub finite : (line : List ℕ) → kind .finite (kind .rowOf (wordsOf (kind .rowForms) line)) ≡ floatsFinite (kind .rowForms) (wordsOf (kind .rowForms) line)
 
-  -- and a line that is read as a row of finite numbers is that row's, byte for byte
+  -- and a row of finite numbers is read from no line but its own, byte for byte
   pub row-was : Rewritten → (line : List ℕ) (row : R) → rowLine kind line ≡ Row row → kind .finite row ≡ true → line ++ endOfLine ≡ rowText kind row
   unfolding rowLine wordsLine
   row-was owed line row e f = by (wellFormed (kind .rowForms) line) refl e

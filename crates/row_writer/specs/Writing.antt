@@ -24,8 +24,8 @@ pub record Written : Type 0 where
 abbrev pub untouched : Refusal → List ℕ → Written
 untouched refusal buffer = record { answer = Refused refusal; buffer = buffer }
 
--- a text put in a buffer from a place on, all other bytes as they were. 1, first, where a number is not finite; 10, next, exactly where the buffer has fewer
--- bytes from there on than the text.
+-- a text put into a buffer from a place on, every other byte kept. Before anything is written it is refused: with 1 if a number is not finite, or else with 10
+-- if what is left of the buffer from there on is shorter than the text
 unfoldable pub writeText : Bool → List ℕ → List ℕ → ℕ → Written
 writeText finite text buffer at =
     let end = at + length text in
