@@ -5,7 +5,7 @@ use mathlib.Core.Path.{_≡_, sym, ap, ap₂, _∙_}
 use native.Mathlib.Omega.{arith}
 use native.Mathlib.Nat.{div-add-mod', mod-lt}
 use lib.Bits.{bitAnd, and-block, and-mask}
-use lib.Pow.{pow-pos, ones-lt}
+use lib.Pow.{pow-pos}
 
 -- of the lowest lane of k bits its lowest m, and of the lanes above it what their mask keeps
 pub lane : (k m n mask high low : ℕ) → 2 ^ m - 1 < 2 ^ k → n / 2 ^ k ≡ high → n % 2 ^ k % 2 ^ m ≡ low

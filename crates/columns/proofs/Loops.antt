@@ -5,14 +5,13 @@ use mathlib.Core.List.{List, [], _∷_, _++_, append-nil}
 use mathlib.Core.Bool.{Bool, true, false, cond, _&&_}
 use native.Mathlib.Omega.{arith}
 use native.Mathlib.Numerals.{add-one}
-use lib.Dec.{eqb}
-use lib.ListN.{length, getD, take, drop, set, replicate, length-set, length-replicate, take-append-drop}
+use lib.ListN.{length, getD, take, drop, set, length-set, length-replicate, take-append-drop}
 use lib.Seq.{drop-cons, drop-drop, drop-length, drop-set-lt, take-suc-set, append-snoc, paste-zero}
 use borrow.Author.Tests.{eq-eqb, ne-eqb}
 use Rattle.columns.specs.declared.forms.Word.{Word}
 use Rattle.columns.specs.Column.{over, Wrote}
 use Rattle.columns.specs.Line.{columnOf}
-use Rattle.columns.specs.Forms.{readWord, wordColumn, columnsGood, wellFormed, wordsOf, lineOf, zeros, Read}
+use Rattle.columns.specs.Forms.{readWord, wordColumn, columnsGood, wordsOf, lineOf, zeros, Read}
 use Rattle.columns.proofs.Writing.{over-both}
 use Rattle.columns.proofs.Tables.{length-line, line-none, other-length, well-good}
 

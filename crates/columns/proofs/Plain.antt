@@ -1,13 +1,13 @@
 -- No newline stands in a column, so that the line of words ends where it ends. Assumes nothing.
-use Prim.Native.Nat.{ℕ, zero, suc, _+_, _*_, _/_, _%_}
-use mathlib.Core.Path.{_≡_, refl, sym, ap, ap₂, _∙_}
+use Prim.Native.Nat.{ℕ, zero, suc, _+_, _/_, _%_}
+use mathlib.Core.Path.{_≡_, refl, ap₂}
 use mathlib.Core.List.{List, [], _∷_, _++_}
 use mathlib.Core.Bool.{Bool, true, false, cond, not, _&&_}
 use native.Mathlib.Omega.{arith}
 use lib.Dec.{ltb, eqb}
 use lib.ListN.{replicate}
 use borrow.Author.Tests.{ne-eqb}
-use Rattle.columns.specs.Column.{space, mark, pad, text, column}
+use Rattle.columns.specs.Column.{space, pad, text, column}
 use Rattle.columns.specs.Line.{newline}
 use Rattle.columns.specs.Forms.{isNegative, magnitude, wordColumn, lineOf}
 use Rattle.columns.proofs.Inverse.{both}
@@ -17,7 +17,7 @@ abbrev pub plain : List ℕ → Bool
 plain [] = true
 plain (b ∷ l) = not (eqb b newline) && plain l
 
-pub plain-append : (a b : List ℕ) → plain a ≡ true → plain b ≡ true → plain (a ++ b) ≡ true
+plain-append : (a b : List ℕ) → plain a ≡ true → plain b ≡ true → plain (a ++ b) ≡ true
 plain-append [] b h k = k
 plain-append (x ∷ a) b h k =
     let s = both (not (eqb x newline)) (plain a) h in

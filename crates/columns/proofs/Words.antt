@@ -1,6 +1,6 @@
 -- One column: the column of a word is read as that word, and a column that is read as a word is its column. Assumes nothing.
 use Prim.Native.Nat.{ℕ, _+_, _-_, _≤_, _<_}
-use mathlib.Core.Path.{_≡_, refl, sym, ap, ap₂, _∙_}
+use mathlib.Core.Path.{_≡_, refl, sym, ap, _∙_}
 use mathlib.Core.List.{List}
 use mathlib.Core.Bool.{Bool, true, false, cond, _&&_, true≢false}
 use native.Mathlib.Omega.{arith}
@@ -12,7 +12,7 @@ use borrow.Author.Tests.{ltb-true, leb-true, leb-false, eqb-true, lt-ltb, le-ltb
 use Rattle.columns.specs.Column.{column}
 use Rattle.columns.specs.Scan.{same, decimal, hasMinus, limit, scan}
 use Rattle.columns.specs.declared.scan.Scanned.the-variants as scanned
-use Rattle.columns.specs.Word.{half, wordSigned}
+use Rattle.columns.specs.Word.{half, lastWord, wordSigned}
 use Rattle.columns.specs.Forms.{float, yesNo, signed, isWord, isNegative, magnitude, wordColumn, wordIn, noWord, aWord, readWord, largest}
 use Rattle.columns.proofs.Scanning.{by-test}
 use Rattle.columns.proofs.Inverse.{both, same-refl, same-eq, column-decimal, column-minus, length-column, scan-column, scan-was}
@@ -105,7 +105,7 @@ module _ (form n : ℕ) (small : n < limit) where
       let m : n ≡ w = c .1 ∙ ap (λ (t : Bool). cond t (limit - w) w) (sym (c .0)) in
       by (eqb form yesNo) (eqb form signed) w m is (c .0) h)
     where
-      by : (y s : Bool) (w : ℕ) → n ≡ w → ltb w (cond y 2 limit) ≡ true → false ≡ s && leb half w → cond y 1 (cond s 9223372036854775807 18446744073709551615) < n → ⊥
+      by : (y s : Bool) (w : ℕ) → n ≡ w → ltb w (cond y 2 limit) ≡ true → false ≡ s && leb half w → cond y 1 (cond s 9223372036854775807 lastWord) < n → ⊥
       by true s w m t _ l = omega (arith, ltb-true w 2 t)
       by false true w m t f l = omega (arith, leb-false half w (sym f))
       by false false w m t f l = omega (arith, ltb-true w limit t)
@@ -114,11 +114,11 @@ module _ (form n : ℕ) (small : n < limit) where
   unfolding isWord largest wordColumn
   plain-word h = sym (ap (λ (c : List ℕ). readWord form c) (rw plain) ∙ read-word-back form n (word-there (eqb form yesNo) (eqb form signed) h))
     where
-      word-there : (y s : Bool) → n ≤ cond y 1 (cond s 9223372036854775807 18446744073709551615) → ltb n (cond y 2 limit) ≡ true
+      word-there : (y s : Bool) → n ≤ cond y 1 (cond s 9223372036854775807 lastWord) → ltb n (cond y 2 limit) ≡ true
       word-there true s l = lt-ltb n 2 (omega arith)
       word-there false s l = lt-ltb n limit small
 
-      low : (y s : Bool) → n ≤ cond y 1 (cond s 9223372036854775807 18446744073709551615) → s && leb half n ≡ false
+      low : (y s : Bool) → n ≤ cond y 1 (cond s 9223372036854775807 lastWord) → s && leb half n ≡ false
       low y false l = refl
       low true true l = lt-leb half n (omega arith)
       low false true l = lt-leb half n (omega arith)
@@ -127,9 +127,9 @@ module _ (form n : ℕ) (small : n < limit) where
       plain = low (eqb form yesNo) (eqb form signed) h
 
 -- each number is one of a float
-pub largest-float : (form : ℕ) → form ≡ float → largest form ≡ 18446744073709551615
+pub largest-float : (form : ℕ) → form ≡ float → largest form ≡ lastWord
 unfolding largest
-largest-float form e = ap (λ (f : ℕ). cond (eqb f yesNo) 1 (cond (eqb f signed) 9223372036854775807 18446744073709551615)) e
+largest-float form e = ap (λ (f : ℕ). cond (eqb f yesNo) 1 (cond (eqb f signed) 9223372036854775807 lastWord)) e
 
 -- by what is scanned
 pub scanned-word : (form : ℕ) (c : List ℕ) (minus b : Bool) (n : ℕ) → scan c ≡ scanned.Number minus n → minus ≡ b → readWord form (column b n) ≡ readWord form c
@@ -155,10 +155,10 @@ minus-word form n w e low high m =
     sym (ap (λ (c : List ℕ). readWord form c) is ∙ read-word-back form w there)
 
 -- the column that is written of a word of a signed number below 0, and of any other
-pub column-minus-word : (form w : ℕ) → form ≡ signed → half ≤ w → w < limit → column true (18446744073709551615 - w + 1) ≡ wordColumn form w
+pub column-minus-word : (form w : ℕ) → form ≡ signed → half ≤ w → w < limit → column true (lastWord - w + 1) ≡ wordColumn form w
 unfolding wordColumn
 column-minus-word form w e h l =
-    let d : 18446744073709551615 - w + 1 ≡ limit - w = omega arith in
+    let d : lastWord - w + 1 ≡ limit - w = omega arith in
     simp (eq-eqb form signed e, le-leb half w h, d)
 
 pub column-plain-word : (form w : ℕ) → (form ≡ signed → w < half) → column false w ≡ wordColumn form w
@@ -171,7 +171,7 @@ column-plain-word form w h = rw (go (eqb form signed) refl)
 
 -- ---- two's complement
 
-pub negative-word : (w : ℕ) → half ≤ w → negsuc (18446744073709551615 - w) ≡ wordSigned w
+pub negative-word : (w : ℕ) → half ≤ w → negsuc (lastWord - w) ≡ wordSigned w
 unfolding wordSigned
 negative-word w h = rw (le-ltb _ _ h)
 

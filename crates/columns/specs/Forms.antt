@@ -8,7 +8,7 @@ use lib.Dec.{ltb, leb, eqb}
 use lib.ListN.{length, take, drop, replicate}
 use Rattle.columns.specs.Column.{width, column}
 use Rattle.columns.specs.Scan.{same, decimal, hasMinus, limit}
-use Rattle.columns.specs.Word.{half}
+use Rattle.columns.specs.Word.{half, lastWord}
 use Rattle.columns.specs.declared.forms.Word.{Word}
 use Rattle.columns.specs.declared.forms.Table.{Table}
 use Rattle.columns.specs.declared.forms.Words.{Words}
@@ -67,7 +67,7 @@ readWord form bytes =
 
 -- the largest number of a form
 unfoldable pub largest : ℕ → ℕ
-largest form = cond (eqb form yesNo) 1 (cond (eqb form signed) 9223372036854775807 18446744073709551615)
+largest form = cond (eqb form yesNo) 1 (cond (eqb form signed) 9223372036854775807 lastWord)
 
 -- ---- the columns of a line
 

@@ -1,12 +1,10 @@
 -- Lines made of columns (document 01, 'Row lines': byte 10 after each line; a refused line prints status only).
-use Prim.Native.Nat.{ℕ, _+_, _*_, _≤_}
+use Prim.Native.Nat.{ℕ, _*_}
 use mathlib.Core.List.{List, [], _∷_, _++_}
 use mathlib.Core.Bool.{false}
-use lib.ListN.{length, take, drop}
+use lib.ListN.{take, drop}
 use Rattle.columns.specs.Column.{width, column}
 use Rattle.columns.specs.Forms.{lineOf}
-use Rattle.columns.specs.declared.forms.Table.{Table}
-use Rattle.columns.specs.declared.forms.Words.{Words}
 
 abbrev pub newline : ℕ
 newline = 10

@@ -5,7 +5,7 @@ ghost use Prim.Native.Nat.{_<_};
 ghost use lib.IntN.{pos, negsuc};
 ghost use lib.Signed.{ltZ};
 ghost use lib.Ieee.{ofBits, toBits, binary64};
-ghost use Rattle.columns.specs.Word.{yesNoWord, wordSigned, signedWord};
+ghost use Rattle.columns.specs.Word.{half, yesNoWord, wordSigned, signedWord};
 
 // The float of a pattern; a NaN for any pattern of a NaN. There is one NaN here, and it has no bits, so patterns of NaNs are told apart from the others first.
 pub fn of_pattern(n: u64) -> f64
@@ -39,7 +39,7 @@ pub fn yes_no_word(b: bool) -> u64
 
 // n as a signed number.
 fn positive(n: u64) -> i64
-    requires { ⌜ n < 9223372036854775808 ⌝ }
+    requires { ⌜ n < half ⌝ }
     ensures { λ r. ⌜ r ≡ pos n ⌝ }
 {
     n as i64
@@ -47,7 +47,7 @@ fn positive(n: u64) -> i64
 
 // The number one below the negation of k.
 fn negative(k: u64) -> i64
-    requires { ⌜ k < 9223372036854775808 ⌝ }
+    requires { ⌜ k < half ⌝ }
     ensures { λ r. ⌜ r ≡ negsuc k ⌝ }
 {
     !(k as i64)
@@ -74,7 +74,7 @@ fn height(z: i64) -> u64
 // How far a signed number is below −1.
 fn depth(z: i64) -> u64
     requires { ⌜ ltZ z (pos 0) ≡ true ⌝ }
-    ensures { λ r. ⌜ (z ≡ negsuc r) × (r < 9223372036854775808) ⌝ }
+    ensures { λ r. ⌜ (z ≡ negsuc r) × (r < half) ⌝ }
 {
     (!z) as u64
 }

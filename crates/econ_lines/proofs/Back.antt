@@ -14,7 +14,7 @@ use Rattle.row_writer.specs.Writing.{ReadsBack}
 use Rattle.row_writer.proofs.RowsBack.{GivenBack, Rewritten, row-back, row-was}
 use Rattle.economizer_controller.specs.declared.types.EconomizerRow.{EconomizerRow}
 use Rattle.economizer_controller.specs.Verdict.{numbersFinite}
-use Rattle.econ_lines.specs.Econ.{econRowForms, econRowOf, econRowWords, econKind, econLine, econRowText}
+use Rattle.econ_lines.specs.Econ.{econRowOf, econRowWords, econKind, econLine, econRowText}
 
 -- a row that 64 bits hold: each row of a program
 pub record Fits (row : EconomizerRow) : Type 0 where

@@ -1,2 +1,2 @@
 // Economizer lines (document 01, 'Row lines').
-pub mod econ; // the columns of a row and of an answer, and a row by its words
+pub mod econ; // the columns of a row and of an answer, a row by its words, and a row written

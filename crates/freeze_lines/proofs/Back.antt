@@ -12,7 +12,7 @@ use Rattle.row_writer.specs.Writing.{ReadsBack}
 use Rattle.row_writer.proofs.RowsBack.{GivenBack, Rewritten, row-back, row-was}
 use Rattle.freeze_protection.specs.declared.types.FreezeRow.{FreezeRow}
 use Rattle.freeze_protection.specs.Verdict.{numbersFinite}
-use Rattle.freeze_lines.specs.Freeze.{freezeRowForms, freezeRowOf, freezeRowWords, freezeKind, freezeLine, freezeRowText}
+use Rattle.freeze_lines.specs.Freeze.{freezeRowOf, freezeRowWords, freezeKind, freezeLine, freezeRowText}
 
 -- a row that 64 bits hold: each row of a program
 pub record Fits (row : FreezeRow) : Type 0 where

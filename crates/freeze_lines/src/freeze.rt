@@ -1,4 +1,4 @@
-// Freeze lines: the columns of a row and of an answer, the words of a row made into it, an answer made into words.
+// Freeze lines: the columns of a row and of an answer, a row made of its words and written by them, an answer made into words.
 ghost use mathlib.Core.Path.{_≡_};
 ghost use Rattle.columns.specs.Forms.{wordList};
 ghost use Rattle.line_stream.specs.RowKind.{Stepped};

@@ -10,7 +10,7 @@ use lib.Seq.{take-all}
 use borrow.Author.Tests.{eq-eqb}
 use Rattle.columns.specs.declared.forms.Words.{Words}
 use Rattle.columns.specs.Forms.{unsigned, wellFormed, wordsOf, wordList, zeros, Read}
-use Rattle.columns.specs.Line.{statusLine, wordsLine}
+use Rattle.columns.specs.Line.{wordsLine}
 use Rattle.columns.proofs.Tables.{other-length, well-length}
 use Rattle.columns.proofs.Lines.{length-status, length-words-line, status-words-line}
 use Rattle.line_stream.specs.Lines.{Answer}

@@ -18,7 +18,7 @@ use Rattle.row_writer.specs.Writing.{ReadsBack}
 use Rattle.row_writer.proofs.RowsBack.{GivenBack, Rewritten, row-back, row-was}
 use Rattle.relief_fan_group.specs.declared.types.ReliefRow.{ReliefRow}
 use Rattle.relief_fan_group.specs.Verdict.{numbersFinite}
-use Rattle.relief_lines.specs.Relief.{reliefRowForms, reliefRowOf, reliefRowWords, reliefKind, reliefLine, reliefRowText}
+use Rattle.relief_lines.specs.Relief.{reliefRowOf, reliefRowWords, reliefKind, reliefLine, reliefRowText}
 
 -- a row that 64 bits hold, and its arrays of 2 and 4: each row of a program
 pub record Fits (row : ReliefRow) : Type 0 where

@@ -1,7 +1,6 @@
 -- What `reliefKind` owes as a kind of rows. Assumes nothing.
 use Prim.Native.Nat.{_≤_}
 use mathlib.Core.Path.{refl}
-use mathlib.Core.List.{[]}
 use native.Mathlib.Omega.{arith}
 use lib.ListN.{length}
 use Rattle.columns.specs.Forms.{wordsOf}

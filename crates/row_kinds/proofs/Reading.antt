@@ -1,11 +1,11 @@
 -- However the input is cut into chunks, the reader writes the output of the whole; for any sequences that bytes past the 255th of a line make no
 -- difference to. Assumes nothing.
 use Prim.Native.Nat.{ℕ, _≤_}
-use mathlib.Core.Path.{_≡_, refl, sym, ap, _∙_}
+use mathlib.Core.Path.{_≡_, refl, ap}
 use mathlib.Core.List.{List, [], _∷_, _++_}
 use native.Mathlib.Omega.{arith}
 use lib.ListN.{take}
-use Rattle.line_stream.specs.Lines.{Answer, Fed, whole, cut, answers, feed, restAfter, linesAfter}
+use Rattle.line_stream.specs.Lines.{Answer, whole, cut, answers, feed, restAfter, linesAfter}
 use Rattle.line_stream.proofs.Cutting.{cut-append, written-is}
 use Rattle.row_kinds.specs.Reader.{Reader, First, At, Stopped, Start, lastLine, readerEnding, readerKept, firstLine, answerAs, readerLine, readerOutput, readerWritten}
 

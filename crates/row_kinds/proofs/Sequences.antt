@@ -6,7 +6,7 @@ use native.Mathlib.Omega.{arith}
 use lib.ListN.{length, take, length-take}
 use lib.Seq.{take-all}
 use Rattle.columns.proofs.Lines.{length-status}
-use Rattle.line_stream.specs.Lines.{Answer, whole}
+use Rattle.line_stream.specs.Lines.{whole}
 use Rattle.line_stream.proofs.Cutting.{at-most-or-above}
 use Rattle.line_stream.proofs.RowKinds.{kind-cut, kind-room}
 use Rattle.freeze_lines.specs.Freeze.{freezeKind}

@@ -3,7 +3,7 @@
 use Prim.Native.Nat.{ℕ}
 use mathlib.Core.List.{List, [], _∷_}
 use Rattle.columns.specs.Line.{statusLine}
-use Rattle.line_stream.specs.Lines.{Answer, Fed, feed, output, cut, written}
+use Rattle.line_stream.specs.Lines.{Answer, output, cut, written}
 
 -- before the first line, in a sequence, or after a first line that names none
 pub data Reader (Q : Type 0) : Type 0 where

@@ -5,7 +5,7 @@ use mathlib.Core.Path.{_≡_}
 use mathlib.Core.List.{List}
 use mathlib.Core.Bool.{Bool, true, false}
 use lib.Ieee.{Float}
-use lib.ListN.{length, take, drop}
+use lib.ListN.{length, drop}
 use Rattle.reals.specs.declared.seen.Seen.the-variants.{Never}
 use Rattle.reals.specs.Constants.{plusZero}
 use Rattle.columns.specs.Column.{Wrote}

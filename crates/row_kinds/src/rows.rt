@@ -1,7 +1,5 @@
 // The lines of a kind of rows in a text: one loop for all kinds, each an arm of it. The output and the arrays of the relief window are lent.
-ghost use mathlib.Core.Path.{_≡_};
-ghost use Prim.Native.Nat.{_+_, _*_, _≤_};
-ghost use lib.ListN.{length};
+ghost use Prim.Native.Nat.{_+_};
 ghost use Rattle.row_kinds.specs.Rows.{carried, PassingRows, LinesPassed};
 use crate::kind::Kind;
 use crate::kind::Phase;

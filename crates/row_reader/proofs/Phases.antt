@@ -1,8 +1,8 @@
 -- The reader by its phase: the first line, a reader that has stopped, and the line that ends what is kept of it. Assumes nothing.
 use Prim.Native.Nat.{ℕ, _+_, _-_, _*_, _≤_, min}
 use mathlib.Core.Path.{_≡_, refl, sym, ap, _∙_}
-use mathlib.Core.List.{List, [], _∷_, _++_, append-nil}
-use mathlib.Core.Bool.{Bool, true, false, cond, true≢false}
+use mathlib.Core.List.{List, [], _++_, append-nil}
+use mathlib.Core.Bool.{true, false, true≢false}
 use native.Mathlib.Omega.{arith}
 use lib.Ieee.{Float}
 use lib.Dec.{ltb}
@@ -11,8 +11,6 @@ use lib.Seq.{drop-length, length-take-le, take-take}
 use Rattle.reals.specs.Constants.{plusZero}
 use Rattle.moving_average.specs.State.{movingAverageNew}
 use Rattle.relief_fan_group.specs.Step.{reliefFresh}
-use Rattle.columns.specs.Column.{Wrote}
-use Rattle.columns.specs.Line.{statusLine}
 use Rattle.columns.proofs.Scanning.{by-test}
 use Rattle.columns.proofs.Writing.{wrote-text}
 use Rattle.line_stream.specs.Lines.{Answer, Fed, feed, cut, onward, fedFrom}

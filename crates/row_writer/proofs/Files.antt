@@ -10,9 +10,9 @@ use Rattle.columns.specs.Line.{newline, endOfLine, wordsLine}
 use Rattle.columns.proofs.Inverse.{both}
 use Rattle.columns.proofs.Plain.{plain, plain-line}
 use Rattle.line_stream.specs.Lines.{Answer, Fed, feed}
-use Rattle.line_stream.specs.RowKind.{RowKind, RowLine, Row, rowLine, readAnswered, lineAnswered}
+use Rattle.line_stream.specs.RowKind.{RowKind, RowLine, Row, readAnswered, lineAnswered}
 use Rattle.line_stream.proofs.Cutting.{after, feed-empty, feed-newline, feed-byte}
-use Rattle.row_writer.specs.Writing.{ReadsBack, rowsText, rowsAnswered, AllReadBack}
+use Rattle.row_writer.specs.Writing.{rowsText, rowsAnswered, AllReadBack}
 
 not-newline : (b : ℕ) → not (eqb b newline) ≡ true → b ≡ newline → ⊥
 not-newline b h = eqb-false b newline (not-true (eqb b newline) h)

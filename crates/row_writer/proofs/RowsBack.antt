@@ -8,7 +8,7 @@ use Rattle.columns.specs.Forms.{wellFormed, wordsOf, lineOf, areWords}
 use Rattle.columns.specs.Line.{endOfLine, wordsLine}
 use Rattle.columns.proofs.Tables.{read-back, was-written}
 use Rattle.columns.proofs.Values.{allAgain, floatsFinite, words-again}
-use Rattle.line_stream.specs.RowKind.{RowKind, RowLine, Row, Malformed, rowLine}
+use Rattle.line_stream.specs.RowKind.{RowKind, Row, Malformed, rowLine}
 use Rattle.row_writer.specs.Writing.{rowText, ReadsBack}
 
 module _ {S R A : Type 0} (kind : RowKind S R A) where

@@ -2,7 +2,6 @@
 ghost use mathlib.Core.Path.{_≡_};
 ghost use Prim.Native.Nat.{_+_, _*_, _≤_};
 ghost use lib.Dec.{ltb};
-ghost use lib.ListN.{length};
 ghost use mathlib.Core.Bool.{not};
 ghost use Rattle.columns.specs.Forms.{formsOf, wordsIn};
 ghost use Rattle.columns.specs.Line.{wordsLine};

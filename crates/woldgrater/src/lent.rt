@@ -1,5 +1,4 @@
 // The reader on arrays that a caller lends, of which nothing is known but what their types say.
-ghost use mathlib.Core.Path.{_≡_};
 ghost use Prim.Native.Nat.{_≤_};
 ghost use lib.ListN.{length, take};
 ghost use Rattle.row_kinds.specs.Rows.{carried, FedTo, Finished};

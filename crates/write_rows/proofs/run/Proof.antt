@@ -6,7 +6,7 @@ use Rattle.write_rows.proofs.run.Statement.{statement}
 use Rattle.write_rows.proofs.run.Tie as tie
 
 abbrev Inv-loop : tie.InvT-loop
-Inv-loop bytes₀ out₀ rows₀ bytes out rows = (length bytes ≡ 112) × (length out ≡ 256)
+Inv-loop bytes₀ out₀ rows₀ bytes out rows = (length bytes ≡ 120) × (length out ≡ 512)
 
 abbrev μ-loop : tie.MeasureT-loop
 μ-loop bytes₀ out₀ rows₀ bytes out rows = rows

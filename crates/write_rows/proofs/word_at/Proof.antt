@@ -1,7 +1,5 @@
 -- `word_at` is safe and ends: it reads 8 bytes of the record, the last first. Assumes nothing.
-use Prim.Native.Nat.{_+_, _*_, _≤_}
-use mathlib.Core.Path.{_≡_}
-use native.Mathlib.Omega.{arith}
+use Prim.Native.Nat.{_≤_}
 use borrow.Author.Needs.{needs}
 use Rattle.write_rows.proofs.word_at.Statement.{statement}
 use Rattle.write_rows.proofs.word_at.Tie as tie

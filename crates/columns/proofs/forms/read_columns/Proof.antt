@@ -1,6 +1,6 @@
 -- `read_columns` meets its contract: column by column. Assumes nothing.
 use Prim.Native.Nat.{ℕ, _-_, _<_}
-use mathlib.Core.Path.{_≡_, refl, sym, ap, _∙_}
+use mathlib.Core.Path.{_≡_, sym, ap, _∙_}
 use mathlib.Core.List.{List}
 use native.Mathlib.Omega.{arith}
 use lib.ListN.{length, getD, take}

@@ -9,12 +9,14 @@ use mir.Val.{toZ, ofZ}
 use mir.ValLaws.{toZ-pos}
 use mir.Syntax.{w64}
 use borrow.Author.Tests.{ltb-true}
+use Rattle.columns.specs.Scan.{limit}
+use Rattle.columns.specs.Word.{half, lastWord}
 use Rattle.columns.proofs.word.depth.Statement.{statement}
 use Rattle.columns.proofs.word.depth.Tie as tie
 
-flip : (z : ℤ) → mag z < 9223372036854775808 → ltZ z (pos 0) ≡ true → toZ w64 (18446744073709551615 - ofZ w64 z) ≡ pos (mag z)
+flip : (z : ℤ) → mag z < half → ltZ z (pos 0) ≡ true → toZ w64 (lastWord - ofZ w64 z) ≡ pos (mag z)
 flip (negsuc k) h e =
-    let d : 18446744073709551615 - (18446744073709551616 - suc k) ≡ k = omega arith in
+    let d : lastWord - (limit - suc k) ≡ k = omega arith in
     ap (λ (n : ℕ). toZ w64 n) d ∙ toZ-pos w64 k h
 flip (pos n) h e = let z : n < 0 = ltb-true _ _ e in absurd (omega arith)
 

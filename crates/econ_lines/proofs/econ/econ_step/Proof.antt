@@ -1,5 +1,5 @@
 -- `econ_step` meets its contract: the row of the words, stepped. Assumes nothing.
-use mathlib.Core.Path.{_≡_, ap, _∙_}
+use mathlib.Core.Path.{ap, _∙_}
 use Rattle.economizer_controller.specs.declared.types.EconomizerStep.{EconomizerStep}
 use Rattle.economizer_controller.specs.declared.types.EconomizerRow.{EconomizerRow}
 use Rattle.economizer_controller.specs.Step.{economizerRow}

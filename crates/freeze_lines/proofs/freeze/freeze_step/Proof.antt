@@ -1,5 +1,5 @@
 -- `freeze_step` meets its contract: the row of the words, stepped. Assumes nothing.
-use mathlib.Core.Path.{_≡_, ap, _∙_}
+use mathlib.Core.Path.{ap, _∙_}
 use Rattle.freeze_protection.specs.declared.types.FreezeStep.{FreezeStep}
 use Rattle.freeze_protection.specs.declared.types.FreezeRow.{FreezeRow}
 use Rattle.freeze_protection.specs.Step.{freezeRow}

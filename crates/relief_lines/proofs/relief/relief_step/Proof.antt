@@ -1,5 +1,5 @@
 -- `relief_step` meets its contract: the row of the words, stepped. Assumes nothing.
-use mathlib.Core.Path.{_≡_, ap, _∙_}
+use mathlib.Core.Path.{ap, _∙_}
 use Rattle.relief_fan_group.specs.declared.types.ReliefStep.{ReliefStep}
 use Rattle.relief_fan_group.specs.declared.types.ReliefRow.{ReliefRow}
 use Rattle.relief_fan_group.specs.Step.{reliefRow}

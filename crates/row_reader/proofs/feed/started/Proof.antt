@@ -1,5 +1,5 @@
 -- `started` meets its contract, kind by kind. Assumes nothing.
-use mathlib.Core.Path.{_≡_, sym, ap, _∙_}
+use mathlib.Core.Path.{sym, ap, _∙_}
 use lib.ListN.{replicate}
 use borrow.Author.Needs.{needs}
 use Rattle.reals.specs.Constants.{plusZero}
