@@ -1,4 +1,5 @@
--- Refusals (document 01, 'What each row refuses'). The first one that fits, in the order of their numbers, is given.
+-- Refusals (document 01, 'What each row refuses'; 10 is document 02's, job 8, for a row that is written). The first one that fits, in the order of their
+-- numbers, is given.
 use Prim.Native.Nat.{ℕ}
 use mathlib.Core.Bool.{Bool, not, cond}
 use lib.Ieee.{Float}
@@ -10,7 +11,7 @@ use Rattle.refusals.specs.declared.Refusal.the-variants.{NotFinite, Nega
 use Rattle.refusals.specs.declared.Verdict.{Verdict}
 use Rattle.refusals.specs.declared.Verdict.the-variants.{Accepted, Refused}
 
--- the paper's number of each refusal
+-- the papers' number of each refusal
 unfoldable pub refusalNumber : Refusal → ℕ
 refusalNumber NotFinite = 1
 refusalNumber NegativeTime = 2

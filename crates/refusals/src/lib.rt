@@ -1,4 +1,5 @@
-// What a row is refused for (document 01, 'What each row refuses'), one enum for all sequences, and the three refusals that all of them share.
+// What a row is refused for (document 01, 'What each row refuses'; document 02, job 8, for a row that is written), one enum for all, and the three
+// refusals that all sequences share.
 ghost use mathlib.Core.Path.{_≡_};
 ghost use Rattle.refusals.specs.Refusals.{refusalNumber, judge};
 use reals::seen::Seen;
@@ -18,7 +19,7 @@ pub enum Verdict {
 }
 
 impl Refusal {
-    // Document 01's number of the refusal: the status of a row line.
+    // The papers' number of the refusal: the status of a row line.
     pub fn number(self) -> u64
         ensures { λ r. ⌜ r ≡ refusalNumber self ⌝ }
     {
