@@ -13,6 +13,7 @@ ROOT = os.path.dirname(COMPARE)
 TARGET = os.path.join(ROOT, 'target', 'compare')
 REFERENCE = os.path.join(TARGET, 'reference')
 GENERATE = os.path.join(TARGET, 'generate')
+CALLS = os.path.join(TARGET, 'calls')
 EVENTS = os.path.join(TARGET, 'events')
 
 sys.path.insert(0, os.path.join(ROOT, 'tools'))
@@ -72,6 +73,14 @@ def build(name):
         print(f'{name}: the reference cannot be built')
         print('0 passed, 1 failed')
         sys.exit(1)
+
+
+def built(part):
+    """Builds a part that not everybody has what it needs for; whether it is there. The build has said why where it is not."""
+    status = subprocess.run([os.path.join(COMPARE, 'build'), part]).returncode
+    if status not in (0, 77):
+        sys.exit(f'compare: {part} cannot be built')
+    return status == 0
 
 
 def columns(text):

@@ -1,5 +1,6 @@
 """What speed and instructions share: a program and the reference measured on the same files of well-formed rows."""
 
+import contextlib
 import os
 import subprocess
 import sys
@@ -17,20 +18,27 @@ def files(kinds):
             yield 'relief, dense', kind, 'dense'
 
 
-def measure(script, rows, unit, figures, needed=lambda: None):
+@contextlib.contextmanager
+def generated(kind, style, rows):
+    """The path of a file of well-formed rows."""
+    with tempfile.TemporaryDirectory() as folder:
+        path = os.path.join(folder, 'rows')
+        with open(path, 'wb') as out:
+            subprocess.run([comparing.GENERATE, kind, style, str(rows)], stdout=out, check=True)
+        yield path
+
+
+def measure(script, rows, unit, figures, needed=lambda: None, more=lambda rows, kinds: None):
     """Prints the figures of the reference and of the program, and their ratio, for each file; whether the
     program answers all of them as the reference does. `figures` gets both programs, a path and the rows in it;
-    `needed` is asked first, and ends the script where something is missing."""
+    `needed` is asked first, and ends the script where something is missing; `more` gets rows and kinds at the end."""
     program, rows, kinds = comparing.arguments(script, 'ROWS', rows, sys.argv[1:])
     needed()
     comparing.build(f'compare/{script}')
     failed = 0
     print(f'{unit:18} {"reference":>12} {"program":>12} {"ratio":>8}')
     for name, kind, style in files(kinds):
-        with tempfile.TemporaryDirectory() as folder:
-            path = os.path.join(folder, 'rows')
-            with open(path, 'wb') as out:
-                subprocess.run([comparing.GENERATE, kind, style, str(rows)], stdout=out, check=True)
+        with generated(kind, style, rows) as path:
             wrong = playing.play(program, path)
             if wrong:
                 failed += 1
@@ -38,4 +46,5 @@ def measure(script, rows, unit, figures, needed=lambda: None):
                 continue
             reference, other = figures(comparing.REFERENCE, program, path, rows)
             print(f'{name:18} {reference:12,.0f} {other:12,.0f} {other / reference:8.2f}', flush=True)
+    more(rows, kinds)
     return failed == 0

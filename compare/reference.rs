@@ -4,11 +4,14 @@
 //!     reference scenario NAME         the rows of the Rust's own scenario, as a row file
 //!     reference blocks                the lines that `replay_blocks` must print
 //!     events count FILE..             how often each kind of event occurs in these row files
+//!     calls measure < ROWS            nanoseconds a row, of the published trace function and of the firmware library's calls
 //!
-//! `events` is this program built with `--cfg events`.
+//! `events` is this program built with `--cfg events`, and `calls` with `--cfg calls` and the library.
 
 #[path = "reference/acceptance.rs"]
 mod acceptance;
+#[cfg(calls)]
+mod calls;
 #[path = "reference/columns.rs"]
 mod columns;
 #[cfg(events)]
@@ -42,6 +45,11 @@ mod sequences {
         .concat()
     }
 }
+
+/// The firmware library, as its users in Rust declare it.
+#[cfg(calls)]
+#[path = "../examples/rust/woldgrater.rs"]
+mod woldgrater;
 
 use std::io::{self, Read, Write};
 use std::process::ExitCode;
@@ -81,6 +89,8 @@ fn run(words: &[&str]) -> Result<(), String> {
         ["scenario", "relief"] => print(&relief::scenario()),
         ["scenario", "econ"] => print(&econ::scenario()),
         ["blocks"] => print([freeze::blocks(), relief::blocks(), econ::blocks(), sequences::blocks()].concat().as_bytes()),
+        #[cfg(calls)]
+        ["measure"] => print(measure(io::stdin().lock()).map_err(|error| error.to_string())?.as_bytes()),
         #[cfg(events)]
         ["count", files @ ..] if !files.is_empty() => print(&events::count(files)?),
         _ => Err(format!(
@@ -114,6 +124,22 @@ fn answer(rows: impl Read, out: &mut impl Write) -> io::Result<()> {
         out.write_all(&text)?;
     }
     out.flush()
+}
+
+/// Measures the calls on a row file.
+#[cfg(calls)]
+fn measure(rows: impl Read) -> io::Result<String> {
+    let mut input = Input::new(rows);
+    while input.text().len() < 7 && input.more()? {}
+    if take(&mut input, b"freeze\n") {
+        freeze::measure(&mut input)
+    } else if take(&mut input, b"relief\n") {
+        relief::measure(&mut input)
+    } else if take(&mut input, b"econ\n") {
+        econ::measure(&mut input)
+    } else {
+        Err(io::Error::other("the first line names no kind"))
+    }
 }
 
 fn take(input: &mut Input<impl Read>, first_line: &[u8]) -> bool {

@@ -11,6 +11,8 @@ use crate::columns::{Columns, put_flag, put_float, put_signed};
 use crate::input::Input;
 use crate::lines::{self, Kind};
 use crate::marks;
+#[cfg(calls)]
+use crate::woldgrater as library;
 
 struct Econ;
 
@@ -52,6 +54,47 @@ impl Kind for Econ {
         put_float(out, trace.outdoor_damper_command[index]);
         put_float(out, trace.return_damper_command[index]);
     }
+}
+
+#[cfg(calls)]
+impl crate::calls::Called for Econ {
+    type Sample = library::EconRow;
+    type Sequence = library::Econ;
+    type Commands = library::EconCommands;
+
+    fn sample(time: f64, row: &Row) -> library::EconRow {
+        library::EconRow {
+            time,
+            outdoor_airflow_normalized: row.outdoor_airflow_normalized,
+            minimum_outdoor_airflow_setpoint_normalized: row.minimum_outdoor_airflow_setpoint_normalized,
+            supply_temperature_signal: row.supply_temperature_signal,
+            outdoor_air_temperature: row.outdoor_air_temperature,
+            supply_fan_status: row.supply_fan_status.into(),
+            operation_mode: row.operation_mode,
+            freeze_protection_stage: row.freeze_protection_stage,
+        }
+    }
+
+    fn start() -> library::Econ {
+        library::Econ::start()
+    }
+
+    fn call(sequence: &mut library::Econ, sample: library::EconRow) -> Result<library::EconCommands, u64> {
+        sequence.row(sample)
+    }
+
+    fn put(commands: &library::EconCommands, out: &mut Vec<u8>) {
+        put_float(out, commands.outdoor_damper_min_limit);
+        put_flag(out, commands.minimum_outdoor_air_loop_enabled != 0);
+        put_float(out, commands.outdoor_damper_command);
+        put_float(out, commands.return_damper_command);
+    }
+}
+
+/// The library's calls beside the published trace function.
+#[cfg(calls)]
+pub fn measure(input: &mut Input<impl Read>) -> io::Result<String> {
+    crate::calls::measure::<Econ>(input)
 }
 
 /// Answers the lines after the first.

@@ -11,6 +11,8 @@ use crate::columns::{Columns, put_flag, put_float, put_signed};
 use crate::input::Input;
 use crate::lines::{self, Kind};
 use crate::marks;
+#[cfg(calls)]
+use crate::woldgrater as library;
 
 struct Freeze;
 
@@ -68,6 +70,58 @@ impl Kind for Freeze {
         put_signed(out, trace.hot_water_plant_request[index]);
         put_signed(out, trace.alarm_level[index]);
     }
+}
+
+#[cfg(calls)]
+impl crate::calls::Called for Freeze {
+    type Sample = library::FreezeRow;
+    type Sequence = library::Freeze;
+    type Commands = library::FreezeCommands;
+
+    fn sample(time: f64, row: &Inputs) -> library::FreezeRow {
+        library::FreezeRow {
+            time,
+            outdoor_damper_min_position: row.outdoor_damper_min_position,
+            outdoor_damper: row.outdoor_damper,
+            heating_coil: row.heating_coil,
+            minimum_outdoor_damper: row.minimum_outdoor_damper,
+            return_damper: row.return_damper,
+            supply_air_temperature: row.supply_air_temperature,
+            software_reset: row.software_reset.into(),
+            supply_fan_status: row.supply_fan_status.into(),
+            supply_fan_speed: row.supply_fan_speed,
+            cooling_coil: row.cooling_coil,
+            mixed_air_temperature: row.mixed_air_temperature,
+        }
+    }
+
+    fn start() -> library::Freeze {
+        library::Freeze::start()
+    }
+
+    fn call(sequence: &mut library::Freeze, sample: library::FreezeRow) -> Result<library::FreezeCommands, u64> {
+        sequence.row(sample)
+    }
+
+    fn put(commands: &library::FreezeCommands, out: &mut Vec<u8>) {
+        put_signed(out, commands.freeze_protection_stage as i64);
+        put_flag(out, commands.chilled_water_pump_enable != 0);
+        put_float(out, commands.return_damper_command);
+        put_float(out, commands.outdoor_damper_command);
+        put_float(out, commands.minimum_outdoor_damper_command);
+        put_flag(out, commands.supply_fan_status != 0);
+        put_float(out, commands.supply_fan_speed);
+        put_float(out, commands.cooling_coil_command);
+        put_float(out, commands.heating_coil_command);
+        put_signed(out, commands.hot_water_plant_request as i64);
+        put_signed(out, commands.alarm_level as i64);
+    }
+}
+
+/// The library's calls beside the published trace function.
+#[cfg(calls)]
+pub fn measure(input: &mut Input<impl Read>) -> io::Result<String> {
+    crate::calls::measure::<Freeze>(input)
 }
 
 /// Answers the lines after the first.

@@ -62,6 +62,22 @@ pub fn answer<K: Kind>(input: &mut Input<impl Read>, out: &mut impl Write) -> io
     out.write_all(&text)
 }
 
+/// The accepted rows among the lines after the first, with their times.
+#[cfg(calls)]
+pub fn accepted<K: Kind>(input: &mut Input<impl Read>) -> io::Result<(Vec<f64>, Vec<K::Row>)> {
+    let (mut times, mut rows) = (Vec::new(), Vec::new());
+    let mut before = Before::default();
+    while let Some(line) = next_line::<K>(input)? {
+        if let Line::Row(time, row) = line
+            && K::status(&mut before, time, K::finite(&row)) == 0
+        {
+            times.push(time);
+            rows.push(row);
+        }
+    }
+    Ok((times, rows))
+}
+
 enum Line<Row> {
     Row(f64, Row),
     BadlyFormed,

@@ -8,6 +8,8 @@ use crate::columns::{Columns, put_flag, put_float, put_signed};
 use crate::input::Input;
 use crate::lines::{self, Kind};
 use crate::marks;
+#[cfg(calls)]
+use crate::woldgrater as library;
 
 struct Relief;
 
@@ -56,6 +58,49 @@ impl Kind for Relief {
             put_float(out, damper[index]);
         }
     }
+}
+
+#[cfg(calls)]
+impl crate::calls::Called for Relief {
+    type Sample = library::ReliefRow;
+    type Sequence = library::Relief;
+    type Commands = library::ReliefCommands;
+
+    fn sample(time: f64, row: &Inputs) -> library::ReliefRow {
+        library::ReliefRow {
+            time,
+            supply: row.supply.map(u64::from),
+            pressure: row.pressure,
+            alarm: row.alarm,
+            proof: row.proof.map(u64::from),
+        }
+    }
+
+    fn start() -> library::Relief {
+        library::Relief::start()
+    }
+
+    fn call(sequence: &mut library::Relief, sample: library::ReliefRow) -> Result<library::ReliefCommands, u64> {
+        sequence.row(sample)
+    }
+
+    fn put(commands: &library::ReliefCommands, out: &mut Vec<u8>) {
+        put_float(out, commands.averaged_pressure);
+        put_float(out, commands.fan_speed_1);
+        put_float(out, commands.fan_speed_2);
+        put_float(out, commands.fan_speed_3);
+        put_float(out, commands.fan_speed_4);
+        put_float(out, commands.damper_1);
+        put_float(out, commands.damper_2);
+        put_float(out, commands.damper_3);
+        put_float(out, commands.damper_4);
+    }
+}
+
+/// The library's calls beside the published trace function.
+#[cfg(calls)]
+pub fn measure(input: &mut Input<impl Read>) -> io::Result<String> {
+    crate::calls::measure::<Relief>(input)
 }
 
 /// Answers the lines after the first.

@@ -41,6 +41,8 @@ int main(int argc, char **argv)
         state = fed.state;
         if (!written(fed.sent))
             return 1;
+        if (fed.stopped)
+            return 0;
     }
     return len < 0 || !written(woldgrater_finish(out, sizeof out, line, state));
 }

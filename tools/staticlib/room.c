@@ -9,6 +9,9 @@ static const uint8_t rows[] = "econ\n\n\n";
 static const char answers[] = "                    5\n                    5\n";
 enum { LEN = sizeof rows - 1, ANSWERS = sizeof answers - 1 };
 
+/* The last word of a state: how many bytes of a line are kept. */
+enum { KEPT = sizeof(struct woldgrater_state) / sizeof(uint64_t) - 1 };
+
 /* All that is lent to be written. */
 static struct {
     uint8_t out[WOLDGRATER_ROOM(LEN)];
@@ -64,12 +67,28 @@ static void try_feed(void)
         fed = feed(small[i], state);
         expect("feed: too little room is refused", fed.sent == WOLDGRATER_REFUSED && untouched());
         expect("feed: the state of a refused call is as it was", memcmp(&fed.state, &state, sizeof state) == 0);
+        expect("feed: the reader of a refused first chunk has not stopped", fed.stopped == 0);
     }
     fed = feed(sizeof lent.out, state);
     expect("feed: the room asked is enough", fed.sent == ANSWERS);
     expect("feed: two empty lines are refused with 5", memcmp(lent.out, answers, ANSWERS) == 0);
     expect("feed: the bytes after the answers are as they were", rest_untouched());
+    expect("feed: a reader that has a kind has not stopped", fed.stopped == 0);
     expect("feed: another kind's arrays are as they were", memcmp(lent.times, before.times, sizeof lent.times) == 0 && memcmp(lent.integrals, before.integrals, sizeof lent.integrals) == 0);
+}
+
+/* A first line that names no kind stops the reader, and a refused call after it says so too. */
+static void try_stopped(void)
+{
+    static const uint8_t boiler[] = "boiler\n";
+    struct woldgrater_fed fed = woldgrater_feed(boiler, sizeof boiler - 1, lent.out, sizeof lent.out, lent.line, lent.times, lent.integrals,
+                                                woldgrater_start());
+    expect("feed: a first line that names no kind is refused", fed.sent == WOLDGRATER_ROOM_FINISH);
+    expect("feed: a first line that names no kind stops the reader", fed.stopped == 1);
+    fed = feed(0, fed.state);
+    expect("feed: a stopped reader without room is refused, and stopped", fed.sent == WOLDGRATER_REFUSED && fed.stopped == 1);
+    fed = feed(sizeof lent.out, fed.state);
+    expect("feed: a stopped reader reads no more", fed.sent == 0 && fed.stopped == 1);
 }
 
 static void try_finish(void)
@@ -90,7 +109,7 @@ static void try_any_state(void)
             memset(&fed, (int)byte, sizeof fed);
             fed.state.words[0] = phase;
             fed = feed(sizeof lent.out, fed.state);
-            expect("feed: any words are a state", fed.sent <= sizeof lent.out && fed.state.words[263] <= WOLDGRATER_LINE);
+            expect("feed: any words are a state", fed.sent <= sizeof lent.out && fed.state.words[KEPT] <= WOLDGRATER_LINE);
             memset(&fed, (int)byte, sizeof fed);
             fed.state.words[0] = phase;
             expect("finish: any words are a state", woldgrater_finish(lent.out, WOLDGRATER_ROOM_FINISH, lent.line, fed.state) <= WOLDGRATER_ROOM_FINISH);
@@ -100,7 +119,7 @@ static void try_any_state(void)
 
 int main(void)
 {
-    void (*const tries[])(void) = { try_play, try_feed, try_finish, try_any_state };
+    void (*const tries[])(void) = { try_play, try_feed, try_stopped, try_finish, try_any_state };
     memset(&before, 0xA5, sizeof before);
     for (size_t i = 0; i < sizeof tries / sizeof *tries; i++) {
         lent = before;

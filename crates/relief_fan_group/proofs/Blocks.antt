@@ -29,7 +29,7 @@ use Rattle.relief_fan_group.specs.Constants.{minSpeed, stageUpLevel, hys
 use Rattle.relief_fan_group.specs.Signals.{pressureLoop, pressureControl, stageUp, stageDown, reliefSignals}
 use Rattle.relief_fan_group.specs.Step.{reliefBlocks, reliefFresh, reliefNext, signalsAt}
 use Rattle.relief_fan_group.specs.Reading.{Past, timeOfRow, pressureOfRow, mean, loopOf, upPulse, downPulse}
-use Rattle.relief_fan_group.specs.Stages.{blocksOf, signalsOf}
+use Rattle.relief_fan_group.specs.Blocks.{blocksOf, signalsOf}
 use Rattle.relief_fan_group.proofs.Pulses.{Way, request, gateOf, Reads, begins, gate-reads, pulse-reads, one-further}
 
 -- ---- the state of a past

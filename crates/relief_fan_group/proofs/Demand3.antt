@@ -34,7 +34,7 @@ use Rattle.relief_fan_group.specs.Signals.{pressureControl, reliefSignal
 use Rattle.relief_fan_group.specs.Commands.{reliefCommands}
 use Rattle.relief_fan_group.specs.Step.{reliefFresh, reliefRow, signalsAt, stepBy}
 use Rattle.relief_fan_group.specs.Reading.{Past, timeOfRow, pressureOfRow, mean, ReliefReading, reliefReading, verdictOf}
-use Rattle.relief_fan_group.specs.Stages.{blocksOf, signalsOf}
+use Rattle.relief_fan_group.specs.Blocks.{blocksOf, signalsOf}
 use Rattle.relief_fan_group.specs.Told.{pulsesTold, reliefTold, reliefReturned}
 use Rattle.relief_fan_group.proofs.Blocks.{stateOf, signals-are, fresh-is, up-pulse, down-pulse, last-reads}
 
@@ -135,11 +135,12 @@ pub relief-demand-3-at : (other : Told ReliefReading) (rows : List ReliefRow) (i
     → getD (run reliefTold reliefReturned reliefFresh rows) i other ≡ readNewest verdictOf reliefReading other (reverse (take (suc i) rows))
 relief-demand-3-at other rows i l = rw (relief-demand-3 rows) (read-at verdictOf reliefReading other [] rows i l)
 
+-- ---- the state that a run hands to the row after the rows l is that of the accepted ones
+pub state-after : (l : List ReliefRow) → stateAfter reliefReturned reliefFresh l ≡ stateOf (whole.accepted verdictOf l)
+state-after l = rw fresh-is (state-is verdictOf good reliefReading reliefTold reliefReturned stateOf good-none good-more answers moves l)
+
 -- ---- an accepted row's commands are worked from the signals that its past gives
 pub commands-are : (x : ReliefRow) (l : List ReliefRow) → verdictOf (whole.accepted verdictOf l) x ≡ Accepted
     → reliefRow (stateAfter reliefReturned reliefFresh l) x .answer ≡ Answer.Commands (reliefCommands x (signalsOf x (whole.accepted verdictOf l)))
 unfolding reliefRow
-commands-are x l e = rw (handed, verdict-is x (whole.accepted verdictOf l) (accepted-good l), e) (unfold stepBy in rw (signals-are x (whole.accepted verdictOf l)) refl)
-  where
-    handed : stateAfter reliefReturned reliefFresh l ≡ stateOf (whole.accepted verdictOf l)
-    handed = rw fresh-is (state-is verdictOf good reliefReading reliefTold reliefReturned stateOf good-none good-more answers moves l)
+commands-are x l e = rw (state-after l, verdict-is x (whole.accepted verdictOf l) (accepted-good l), e) (unfold stepBy in rw (signals-are x (whole.accepted verdictOf l)) refl)

@@ -1,9 +1,8 @@
--- The fact over the constants; the pulse, the state as a function of the past, and the theorem over whole lists; missed stages; the alarms; the window's length.
+-- The fact over the constants; the pulse, the state as a function of the past, and the theorem over whole lists; the alarms; the window's length.
 pub mod Nearest
 pub mod Pulses
 pub mod Blocks
 pub mod Demand3
-pub mod Stages
 pub mod Alarms
 pub mod Sized
 pub mod Fours

@@ -7,5 +7,5 @@ pub mod Step
 pub mod Lent
 pub mod Reading
 pub mod Told
-pub mod Stages
+pub mod Blocks
 pub mod Alarms

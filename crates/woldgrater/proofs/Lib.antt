@@ -1,4 +1,3 @@
--- Laws that the proofs of the exported functions cite, and the theorem on calls.
-pub mod Playing
-pub mod Carrying
-pub mod Calling
+-- Laws that the proofs of the exported functions cite, and the theorem on calls one after another.
+pub mod ReliefCalls
+pub mod Calls

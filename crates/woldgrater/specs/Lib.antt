@@ -1,3 +1,4 @@
--- What the exported functions cite.
-pub mod Play
-pub mod Chunks
+-- What a caller gets, a call a row.
+pub mod Freeze
+pub mod Economizer
+pub mod Relief

@@ -1,5 +1,4 @@
-// What firmware in C or Rust links (include/woldgrater.h). Callers prove nothing, so nothing is required of them but what their types say.
-pub mod room; // the room that is asked of an output
-pub mod play; // a whole row file in one call
-pub mod lent; // the reader on arrays that a caller lends
-pub mod chunks; // a row file chunk by chunk, in memory that the caller holds
+// What a controller in C or Rust links (include/woldgrater.h): a call a row. Callers prove nothing, so nothing is required of them but what their types say.
+pub mod econ;
+pub mod freeze;
+pub mod relief;

@@ -1,0 +1,16 @@
+-- `SeenWords::of` meets its contract, case by case. Written by tools/words.
+use borrow.Author.Needs.{needs}
+use Rattle.block_words.specs.Seen.{seenWords}
+use Rattle.block_words.proofs.seen.SeenWords.of.Statement.{statement}
+use Rattle.block_words.proofs.seen.SeenWords.of.Tie as tie
+
+returns : tie.Need-returns
+unfolding seenWords
+returns c = simp (c .enum-told .given .1)
+
+returns-2 : tie.Need-returns-2
+unfolding seenWords
+returns-2 c = simp (c .before .value .given .1)
+
+pub of-spec : {M : Type 1} → statement M
+of-spec = tie.close (tie.spec (λ c. search needs) (λ c. search needs) returns returns-2)

@@ -1,0 +1,12 @@
+-- `TrueFalseHoldWords::value` meets its contract: each field is what its callee's equation says. Written by tools/words.
+use borrow.Author.Needs.{needs}
+use Rattle.block_words.specs.TrueFalseHold.{trueFalseHoldOf}
+use Rattle.block_words.proofs.true_false_hold.TrueFalseHoldWords.value.Statement.{statement}
+use Rattle.block_words.proofs.true_false_hold.TrueFalseHoldWords.value.Tie as tie
+
+returns : tie.Need-returns
+unfolding trueFalseHoldOf
+returns c = rw (c .before .word-flag .ensures, c .value .ensures)
+
+pub value-spec : {M : Type 1} → statement M
+value-spec = tie.close (tie.spec (λ c κs. search needs) (λ c κs. search needs) returns)

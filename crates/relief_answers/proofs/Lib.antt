@@ -1,0 +1,19 @@
+-- The next fan and the latches, read off the past; what becomes of a pulse; a pressure too large; rows so far apart that the window never fills.
+pub mod Flags
+pub mod Runs
+pub mod NextFan
+pub mod Settled
+pub mod Latches
+pub mod Directions
+pub mod Pulses
+pub mod Missed
+pub mod Complete
+pub mod Points
+pub mod WindowPoints
+pub mod Overflow
+pub mod TooLarge
+pub mod Magnitude
+pub mod Bounded
+pub mod Spaced
+pub mod Nearest
+pub mod Returning

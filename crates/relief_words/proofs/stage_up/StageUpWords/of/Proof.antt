@@ -1,0 +1,25 @@
+-- `StageUpWords::of` meets its contract: each field is what its callee's equation says. Written by tools/words.
+use borrow.Author.Needs.{needs}
+use Rattle.relief_words.specs.StageUp.{stageUpWords}
+use Rattle.relief_words.proofs.stage_up.StageUpWords.of.Statement.{statement}
+use Rattle.relief_words.proofs.stage_up.StageUpWords.of.Tie as tie
+
+returns : tie.Need-returns
+unfolding stageUpWords
+returns c =
+    rw (
+      c .before .before .before .before .before .flag-word .ensures,
+      c .before .before .before .before .flag-words-of-four .ensures,
+      c .before .before .before .flag-word2 .ensures,
+      c .before .before .flag-word3 .ensures,
+      c .before .flag-word4 .ensures,
+      c .flag-word5 .ensures,
+    )
+
+pub of-spec : {M : Type 1} → statement M
+of-spec =
+    tie.close
+    (tie.spec
+    (λ c κs. search needs) (λ c κs. search needs) (λ c κs. search needs) (λ c κs. search needs)
+    (λ c κs. search needs) (λ c κs. search needs)
+    returns)

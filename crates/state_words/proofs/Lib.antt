@@ -1,3 +1,0 @@
--- Laws that the proofs of state_words cite.
-pub mod BlocksBack
-pub mod StatesBack

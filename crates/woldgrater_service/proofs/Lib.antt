@@ -1,0 +1,5 @@
+-- Laws that the proofs of the exported functions cite, and the theorem on calls.
+pub mod Playing
+pub mod Carrying
+pub mod Calling
+pub mod Lines

@@ -1,0 +1,36 @@
+-- `woldgrater_freeze_signals` meets its contract, by the row's verdict. Assumes nothing.
+use borrow.Author.Needs.{needs}
+use Rattle.woldgrater_service.specs.Shown.{freezeShown}
+use Rattle.woldgrater_service.proofs.freeze.woldgrater_freeze_signals.Statement.{statement}
+use Rattle.woldgrater_service.proofs.freeze.woldgrater_freeze_signals.Tie as tie
+
+returns : tie.Need-returns
+unfolding freezeShown
+returns c =
+    rw (
+      ← c .before .before .before .before .before .before .value .ensures,
+      ← c .before .before .before .before .before .value2 .ensures,
+      ← c .before .before .before .before .freeze-verdict .ensures,
+      c .before .before .enum-told .given .1,
+      ← c .before .freeze-signals .ensures,
+      ← c .of .ensures,
+    )
+
+returns-2 : tie.Need-returns-2
+unfolding freezeShown
+returns-2 c =
+    rw (
+      ← c .before .before .before .before .before .before .before .value .ensures,
+      ← c .before .before .before .before .before .before .value2 .ensures,
+      ← c .before .before .before .before .before .freeze-verdict .ensures,
+      c .before .before .before .verdict .given .1,
+      ← c .before .number .ensures,
+      ← c .zero .ensures,
+    )
+
+pub woldgrater-freeze-signals-spec : {M : Type 1} → statement M
+woldgrater-freeze-signals-spec =
+    tie.close
+    (tie.spec
+    (λ c κs. search needs) (λ c κs. search needs) (λ c κs. search needs) (λ c. search needs) (λ c κs. search needs) (λ c κs. search needs) (λ c. search needs) (λ c κs. search needs) (λ c κs. search needs)
+    returns returns-2)

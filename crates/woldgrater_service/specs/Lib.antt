@@ -1,0 +1,5 @@
+-- What the exported functions cite.
+pub mod Line
+pub mod Shown
+pub mod Play
+pub mod Chunks

@@ -1,0 +1,1 @@
+"""What tools/words writes."""
