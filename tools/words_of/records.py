@@ -3,7 +3,7 @@
 import re
 import textwrap
 
-from . import crates, declared
+from . import declared
 
 # the states, which C sees as words only, and what the calls take and give, in the order of the header
 OPAQUE = ['FreezeState', 'ReliefWords', 'EconomizerState', 'State']

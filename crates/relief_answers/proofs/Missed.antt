@@ -18,7 +18,7 @@ use Rattle.relief_fan_group.specs.Reading.{Past, timeOfRow, upPulse, downPulse,
 use Rattle.relief_answers.specs.NextFan.{enabled, someFan, firstInOrder, nextToStart, nextToStop, fansAfterUp, fansAfterDown}
 use Rattle.relief_answers.specs.Latches.{taken, supplyHere, proofHere, proven, startWanted, stopWanted, startDue, stopDue, settledUp, settledDown, upLatch, downLatch, fansHere}
 use Rattle.relief_answers.specs.Ends.{alike, steady, startNamed, stopNamed}
-use Rattle.relief_answers.proofs.Flags.{no, not-not, at-each, no-fan}
+use Rattle.relief_answers.proofs.Flags.{no, not-not, at-each, no-fan, two, four}
 use Rattle.relief_answers.proofs.Runs.{run-true}
 use Rattle.relief_answers.proofs.NextFan.{up-only, down-only}
 use Rattle.relief_answers.proofs.Latches.{taken-in-order}
@@ -145,7 +145,7 @@ blocked-at d s p k h o n z a =
     (on .0, run-true timeOfRow (alike s p) (unfold alike in refl) proofTime h (on .1))
 
 table-alike : (f : List Bool → List Bool → List Bool)
-    → ((s p : List Bool) → f s p ≡ f (flag s 0 ∷ flag s 1 ∷ []) (each4 (flag p))) → (s p : List Bool) (h : Past)
+    → ((s p : List Bool) → f s p ≡ f (two s) (four p)) → (s p : List Bool) (h : Past)
     → alike s p h ≡ true → f (supplyHere h) (proofHere h) ≡ f s p
 table-alike f only s p [] e = no e (unfold alike in refl)
 table-alike f only s p (x ∷ h) e = like-same s p x h e f only

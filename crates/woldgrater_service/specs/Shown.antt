@@ -32,5 +32,6 @@ unfoldable pub reliefShownBy : Verdict → ReliefSignals → ReliefShown
 reliefShownBy Accepted signals = record { status = 0; signals = reliefSignalsWords signals }
 reliefShownBy (Refused refusal) signals = record { status = refusalNumber refusal; signals = reliefSignalsZero }
 
+-- for a row on a state, whose window may have no room for it
 unfoldable pub reliefShown : ReliefState → ReliefRow → ReliefShown
 reliefShown state row = reliefShownBy (reliefVerdict (state .blocks) row (movingAverageIsFull (state .window) (row .time))) (signalsAt state row)
