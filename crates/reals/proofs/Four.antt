@@ -1,10 +1,10 @@
 -- Loops over the four fans: an array that is filled from the front, one store a turn, and a value that takes one step a turn. Assumes nothing.
-use mathlib.Core.Path.{_≡_, refl}
+use mathlib.Core.Path.{_≡_, refl, _∙_}
 use mathlib.Core.List.{List, [], _∷_}
 use Prim.Native.Nat.{ℕ, zero, suc, _+_, _≤_, _<_}
 use native.Mathlib.Numerals.{add-one}
 use native.Mathlib.Omega.{arith}
-use lib.ListN.{set}
+use lib.ListN.{set, getD, length}
 use Rattle.reals.specs.Four.{each4, fold4}
 
 module _ {A : Type 0} where
@@ -26,6 +26,32 @@ module _ {A : Type 0} where
 
   pub done : {f : ℕ → A} {z : A} {n : ℕ} {out : List A} → Fill f (z ∷ z ∷ z ∷ z ∷ []) n out → 4 ≤ n → out ≡ each4 f
   done {f} {z} {n} {out} h l = let e : n ≡ 4 = omega arith in rw e at (h .so)
+
+  -- setting an element leaves those after it
+  after-set : (l : List A) (i m : ℕ) (a d : A) → i < m → getD (set l i a) m d ≡ getD l m d
+  after-set [] i m a d h = refl
+  after-set (x ∷ xs) i zero a d h = absurd (omega arith)
+  after-set (x ∷ xs) zero (suc m) a d h = refl
+  after-set (x ∷ xs) (suc i) (suc m) a d h = after-set xs i m a d (omega arith)
+
+  filled-yet : (f : ℕ → A) (o : List A) (n m : ℕ) (d : A) → n ≤ m → getD (filled f o n) m d ≡ getD o m d
+  filled-yet f o zero m d h = refl
+  filled-yet f o (suc n) m d h = after-set (filled f o n) n m (f n) d (omega arith) ∙ filled-yet f o n m d (omega arith)
+
+  -- an array that is worked over in place: the element that a turn comes to is as it was, and after four turns all are f's
+  pub yet : {f : ℕ → A} {o : List A} {n : ℕ} {out : List A} (d : A) → Fill f o n out → getD out n d ≡ getD o n d
+  yet {f} {o} {n} d h = rw (h .so) (filled-yet f o n n d (omega arith))
+
+  pub over : {f : ℕ → A} {o : List A} {n : ℕ} {out : List A} → length o ≡ 4 → Fill f o n out → 4 ≤ n → out ≡ each4 f
+  over {f} {o} {n} e h l = let four : n ≡ 4 = omega arith in (rw four at (h .so)) ∙ all o e
+    where
+      all : (o : List A) → length o ≡ 4 → filled f o 4 ≡ each4 f
+      all (a ∷ b ∷ c ∷ d ∷ []) e = refl
+      all [] e = absurd (omega arith)
+      all (a ∷ []) e = absurd (omega arith)
+      all (a ∷ b ∷ []) e = absurd (omega arith)
+      all (a ∷ b ∷ c ∷ []) e = absurd (omega arith)
+      all (a ∷ b ∷ c ∷ d ∷ x ∷ xs) e = absurd (omega arith)
 
   -- what z is after the steps f 0, f 1, .. of which there are n
   abbrev pub stepped : (A → ℕ → A) → A → ℕ → A

@@ -1,13 +1,13 @@
-// The fan constants of `relief_fan_group_trace` as a table, read by fan index, and what they make of the supply fans' states.
+// The fan constants of `relief_fan_group_trace` as a table of bytes, read by fan index, and what they make of the supply fans' states.
 ghost use mathlib.Core.Path.{_≡_};
 ghost use Rattle.relief_fans.specs.Table.{enaRel, gai};
 use reals::switch::bool_to_real;
 
 // The weight of each relief fan: while both supply fans are on, the one with the lowest weight starts first.
-pub const STA_VEC: [f64; 4] = [2.0, 3.0, 1.0, 4.0];
+pub const STA_VEC: [u8; 4] = [2, 3, 1, 4];
 
-// A row for each relief fan, a column for each supply fan: fans 1 and 2 are on supply 1, fans 3 and 4 on supply 2.
-pub const REL_FAN_MAT: [[f64; 2]; 4] = [[1.0, 0.0], [1.0, 0.0], [0.0, 1.0], [0.0, 1.0]];
+// The supply fan that each relief fan is on, counted from 0: the column in which its row of `REL_FAN_MAT` has the 1.
+pub const REL_FAN_SUPPLY: [u8; 4] = [0, 0, 1, 1];
 
 // 1 for each relief fan whose supply fan is on, 0 for the others.
 pub fn ena_rel(supply: [bool; 2]) -> [f64; 4]
@@ -15,8 +15,9 @@ pub fn ena_rel(supply: [bool; 2]) -> [f64; 4]
 {
     let mut out = [0.0; 4];
     for i in 0..4 {
-        let first = REL_FAN_MAT[i][0] * bool_to_real(supply[0]);
-        let second = REL_FAN_MAT[i][1] * bool_to_real(supply[1]);
+        let on = REL_FAN_SUPPLY[i];
+        let first = bool_to_real(on == 0) * bool_to_real(supply[0]);
+        let second = bool_to_real(on == 1) * bool_to_real(supply[1]);
         out[i] = first + second;
     }
     out
@@ -26,9 +27,16 @@ pub fn ena_rel(supply: [bool; 2]) -> [f64; 4]
 pub fn gai(ena_rel: [f64; 4]) -> [f64; 4]
     ensures { λ r. ⌜ r ≡ gai «ena_rel» ⌝ }
 {
-    let mut out = [0.0; 4];
-    for i in 0..4 {
-        out[i] = ena_rel[i] * STA_VEC[i];
+    let mut out = ena_rel;
+    let weights = STA_VEC;
+    // What the fans still to come weigh: 0 after the last. The compiler writes a loop of four counted turns out, and then keeps each weight as a float.
+    let mut left = weights[0] + weights[1] + weights[2] + weights[3];
+    let mut i = 0;
+    while left != 0 {
+        let weight = weights[i];
+        out[i] = out[i] * (weight as f64);
+        left = left - weight;
+        i = i + 1;
     }
     out
 }
