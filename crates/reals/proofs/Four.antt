@@ -1,4 +1,5 @@
--- Loops over the four fans: an array that is filled from the front, one store a turn, and a value that takes one step a turn. Assumes nothing.
+-- Loops over the four fans: an array that is filled from the front, or worked over in place, one store a turn, and a value that takes one step a
+-- turn. Assumes nothing.
 use mathlib.Core.Path.{_≡_, refl, _∙_}
 use mathlib.Core.List.{List, [], _∷_}
 use Prim.Native.Nat.{ℕ, zero, suc, _+_, _≤_, _<_}

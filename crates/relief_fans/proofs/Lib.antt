@@ -1,4 +1,4 @@
--- The fact over the constants, and the alarm guard.
+-- The facts over the constants, as decimals and as bytes, and the alarm guard.
 pub mod Bytes
 pub mod Nearest
 pub mod Guard
