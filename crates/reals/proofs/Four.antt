@@ -25,8 +25,20 @@ module _ {A : Type 0} where
   pub more : {f : ℕ → A} {o : List A} {n : ℕ} {out : List A} {v : A} → Fill f o n out → n < 4 → v ≡ f n → Fill f o (n + 1) (set out n v)
   more {f} {o} {n} {out} {v} h l e = record { most = omega arith; so = rw (add-one n, h .so, e) }
 
+  -- after four turns every element is f's, whatever the array of four held before
+  pub over : {f : ℕ → A} {o : List A} {n : ℕ} {out : List A} → length o ≡ 4 → Fill f o n out → 4 ≤ n → out ≡ each4 f
+  over {f} {o} {n} e h l = let four : n ≡ 4 = omega arith in (rw four at (h .so)) ∙ all o e
+    where
+      all : (o : List A) → length o ≡ 4 → filled f o 4 ≡ each4 f
+      all (a ∷ b ∷ c ∷ d ∷ []) e = refl
+      all [] e = absurd (omega arith)
+      all (a ∷ []) e = absurd (omega arith)
+      all (a ∷ b ∷ []) e = absurd (omega arith)
+      all (a ∷ b ∷ c ∷ []) e = absurd (omega arith)
+      all (a ∷ b ∷ c ∷ d ∷ x ∷ xs) e = absurd (omega arith)
+
   pub done : {f : ℕ → A} {z : A} {n : ℕ} {out : List A} → Fill f (z ∷ z ∷ z ∷ z ∷ []) n out → 4 ≤ n → out ≡ each4 f
-  done {f} {z} {n} {out} h l = let e : n ≡ 4 = omega arith in rw e at (h .so)
+  done = over refl
 
   -- setting an element leaves those after it
   after-set : (l : List A) (i m : ℕ) (a d : A) → i < m → getD (set l i a) m d ≡ getD l m d
@@ -39,20 +51,9 @@ module _ {A : Type 0} where
   filled-yet f o zero m d h = refl
   filled-yet f o (suc n) m d h = after-set (filled f o n) n m (f n) d (omega arith) ∙ filled-yet f o n m d (omega arith)
 
-  -- an array that is worked over in place: the element that a turn comes to is as it was, and after four turns all are f's
+  -- in an array that is worked over in place, the element that a turn comes to is as it was
   pub yet : {f : ℕ → A} {o : List A} {n : ℕ} {out : List A} (d : A) → Fill f o n out → getD out n d ≡ getD o n d
   yet {f} {o} {n} d h = rw (h .so) (filled-yet f o n n d (omega arith))
-
-  pub over : {f : ℕ → A} {o : List A} {n : ℕ} {out : List A} → length o ≡ 4 → Fill f o n out → 4 ≤ n → out ≡ each4 f
-  over {f} {o} {n} e h l = let four : n ≡ 4 = omega arith in (rw four at (h .so)) ∙ all o e
-    where
-      all : (o : List A) → length o ≡ 4 → filled f o 4 ≡ each4 f
-      all (a ∷ b ∷ c ∷ d ∷ []) e = refl
-      all [] e = absurd (omega arith)
-      all (a ∷ []) e = absurd (omega arith)
-      all (a ∷ b ∷ []) e = absurd (omega arith)
-      all (a ∷ b ∷ c ∷ []) e = absurd (omega arith)
-      all (a ∷ b ∷ c ∷ d ∷ x ∷ xs) e = absurd (omega arith)
 
   -- what z is after the steps f 0, f 1, .. of which there are n
   abbrev pub stepped : (A → ℕ → A) → A → ℕ → A

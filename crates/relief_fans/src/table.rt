@@ -6,7 +6,7 @@ use reals::switch::bool_to_real;
 // The weight of each relief fan: while both supply fans are on, the one with the lowest weight starts first.
 pub const STA_VEC: [u8; 4] = [2, 3, 1, 4];
 
-// The supply fan that each relief fan is on, counted from 0: the column in which its row of `REL_FAN_MAT` has the 1.
+// The supply fan that each relief fan is on, counted from 0: the column of the 1 in its row of the Rust's `REL_FAN_MAT`.
 pub const REL_FAN_SUPPLY: [u8; 4] = [0, 0, 1, 1];
 
 // 1 for each relief fan whose supply fan is on, 0 for the others.
@@ -29,7 +29,7 @@ pub fn gai(ena_rel: [f64; 4]) -> [f64; 4]
 {
     let mut out = ena_rel;
     let weights = STA_VEC;
-    // What the fans still to come weigh: 0 after the last. The compiler writes a loop of four counted turns out, and then keeps each weight as a float.
+    // What the fans still to come weigh, 0 after the last. With a fixed number of turns the compiler would keep each weight as a float.
     let mut left = weights[0] + weights[1] + weights[2] + weights[3];
     let mut i = 0;
     while left != 0 {
