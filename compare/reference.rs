@@ -33,14 +33,17 @@ mod sequences {
 
     use cdl_recurrences::{buildings_line, clamp};
 
-    /// The blocks of cdl_recurrences.rs that no sequence here uses, on their own.
+    /// The blocks of cdl_recurrences.rs that no sequence here uses, on their own. The elapsed seconds of the port's other two timers, which the
+    /// published ones do not give, are held to `timer`.
     pub fn blocks() -> String {
         let hysteresis = cdl_recurrences::hysteresis(&[0.5, f64::NAN, -1.0, -2.0, f64::NAN], -1.0, 0.0, false);
-        let elapsed = cdl_recurrences::timer(&[5.0, 7.5, 8.0, 9.0, 9.5], &[true, true, true, false, true]);
+        let elapsed = cdl_recurrences::timer(&[5.2, 5.6, 305.2, 306.0, 306.5], &[true, true, true, false, true]);
         let patterns: String = elapsed.iter().map(|seconds| format!(" {}", seconds.to_bits())).collect();
         [
             crate::marks::line("hysteresis -1 0 of cdl_recurrences.rs, 0.5 nan -1 -2 nan", hysteresis),
-            format!("timer of cdl_recurrences.rs, true at 5 7.5 8, false at 9, true at 9.5 s, patterns:{patterns}\n"),
+            format!("elapsed seconds, true at 5.2 5.6 305.2, false at 306, true at 306.5 s, patterns, of timer:{patterns}\n"),
+            format!("the same, of the freeze timer:{patterns}\n"),
+            format!("the same, of the relief timer:{patterns}\n"),
         ]
         .concat()
     }

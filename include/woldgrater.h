@@ -16,7 +16,7 @@
  * - The stack has room for the call, as WOLDGRATER_STACK_* say below, besides the caller's own structs.
  * - The floating-point unit is set as a C program starts with it: rounding to nearest, subnormal numbers kept (no flush to zero, so
  *   nothing linked with -ffast-math), exceptions masked. Else the answers may be other ones, or the processor may trap.
- * - A state is kept for the library of one WOLDGRATER_VERSION: another version may lay its words out otherwise.
+ * - A state is kept for the library of one WOLDGRATER_VERSION_MAJOR: another may lay its words out otherwise (2 and 3 do not).
  */
 #ifndef WOLDGRATER_H
 #define WOLDGRATER_H
@@ -29,7 +29,7 @@ extern "C" {
 #endif
 
 /* Major, minor: the minor grows with what is added, the major where a state or a struct is laid out anew. */
-#define WOLDGRATER_VERSION_MAJOR 2
+#define WOLDGRATER_VERSION_MAJOR 3
 #define WOLDGRATER_VERSION_MINOR 0
 
 /* Statuses. 0: accepted. The others are refusals: a refused row hands the old state back (the same words, where a call gave them; of
@@ -58,6 +58,15 @@ extern "C" {
  * C++ write `struct` before a type that shares its name with a function. */
 
 /* ---- records, written by tools/words */
+
+/* Timers. */
+
+/* A timer's answer at a row, CDL.Logical.Timer's passed and y: whether its time has passed, and the seconds since
+ * its input became true. */
+struct woldgrater_timer_output {
+    uint64_t passed;                                        /* flag */
+    double elapsed;
+};
 
 /* Freeze protection. */
 
@@ -96,19 +105,19 @@ struct woldgrater_freeze_commands {
     uint64_t alarm_level;
 };
 
-/* The outputs of the thresholds and of the timers on them: what the temperature calls for. */
+/* The outputs of the thresholds and the whole answers of the timers on them: what the temperature calls for. */
 struct woldgrater_freeze_calls {
     uint64_t les_thr_y;                                     /* flag */
-    uint64_t tim_passed;                                    /* flag */
+    struct woldgrater_timer_output tim;
     uint64_t gre_thr_y;                                     /* flag */
-    uint64_t tim1_passed;                                   /* flag */
+    struct woldgrater_timer_output tim1;
     uint64_t end_sta_one_y;                                 /* flag */
     uint64_t les_thr1_y;                                    /* flag */
-    uint64_t tim2_passed;                                   /* flag */
+    struct woldgrater_timer_output tim2;
     uint64_t hol_sta2_y;                                    /* flag */
-    uint64_t tim3_passed;                                   /* flag */
+    struct woldgrater_timer_output tim3;
     uint64_t les_thr2_y;                                    /* flag */
-    uint64_t tim4_passed;                                   /* flag */
+    struct woldgrater_timer_output tim4;
 };
 
 /* Every block's output at a row: what the commands and the next state are worked from. */
@@ -116,7 +125,7 @@ struct woldgrater_freeze_signals {
     struct woldgrater_freeze_calls calls;
     uint64_t or8_y;                                         /* flag */
     uint64_t lat1_y;                                        /* flag */
-    uint64_t tim5_passed;                                   /* flag */
+    struct woldgrater_timer_output tim5;
     uint64_t end_sta_two_y;                                 /* flag */
     uint64_t lat2_y;                                        /* flag */
     uint64_t or2_y;                                         /* flag */
@@ -127,6 +136,17 @@ struct woldgrater_freeze_signals {
     double stage_3_heat;
 };
 
+/* The seconds left until each timer passes: tim calls stage 1, tim1 ends it, tim2 and its hold begin stage 2, tim3
+ * or tim4 calls stage 3, and tim5 ends stage 2. A timer whose input is off has its whole time left. */
+struct woldgrater_freeze_left {
+    double tim;
+    double tim1;
+    double tim2;
+    double tim3;
+    double tim4;
+    double tim5;
+};
+
 /* The state after a row, its status, and the commands of an accepted one: those of a refused one are 0 and mean
  * nothing. */
 struct woldgrater_freeze_given {
@@ -135,10 +155,12 @@ struct woldgrater_freeze_given {
     struct woldgrater_freeze_commands commands;
 };
 
-/* The status of a row, and what the commands of an accepted one are worked from. */
+/* The status of a row, and what the commands of an accepted one are worked from. Beside it the seconds left on its
+ * timers. */
 struct woldgrater_freeze_shown {
     uint64_t status;
     struct woldgrater_freeze_signals signals;
+    struct woldgrater_freeze_left left;
 };
 
 /* Economizer. */
@@ -257,15 +279,15 @@ struct woldgrater_pressure_control {
     uint64_t any_enabled;                                   /* flag */
 };
 
-/* The dampers of stage zero. */
+/* The dampers of stage zero, and the timer whose pass shuts them. */
 struct woldgrater_damper_enable {
     uint64_t damper_open;                                   /* flag */
     uint64_t damper_close_request;                          /* flag */
-    uint64_t damper_clear;                                  /* flag */
+    struct woldgrater_timer_output tim;
     uint64_t ena_dam[4];                                    /* flag */
 };
 
-/* The next fan to start, the up pulse and the latch that it sets. */
+/* The next fan to start, the timer whose pass is the up pulse, and the latch that it sets. */
 struct woldgrater_stage_up {
     uint64_t all_fans_off;                                  /* flag */
     double pro1[4];
@@ -273,11 +295,11 @@ struct woldgrater_stage_up {
     uint64_t or2[4];                                        /* flag */
     uint64_t all_newly_started_proven;                      /* flag */
     uint64_t up_gate;                                       /* flag */
-    uint64_t up_passed;                                     /* flag */
+    struct woldgrater_timer_output up_tim;
     uint64_t lat2_y;                                        /* flag */
 };
 
-/* The next fan to stop, the down pulse and the latch that it sets. */
+/* The next fan to stop, the timer whose pass is the down pulse, and the latch that it sets. */
 struct woldgrater_stage_down {
     double pro2[4];
     double down_distance[4];
@@ -285,7 +307,7 @@ struct woldgrater_stage_down {
     uint64_t not5[4];                                       /* flag */
     uint64_t all_stopped_matches;                           /* flag */
     uint64_t down_gate;                                     /* flag */
-    uint64_t down_passed;                                   /* flag */
+    struct woldgrater_timer_output dow_tim;
     uint64_t lat1_y;                                        /* flag */
 };
 
@@ -297,6 +319,14 @@ struct woldgrater_relief_signals {
     struct woldgrater_stage_down down;
 };
 
+/* The seconds left until each timer passes: tim shuts the dampers of stage zero, up_tim is the up pulse, and
+ * dow_tim the down pulse. A timer whose input is off has its whole time left. */
+struct woldgrater_relief_left {
+    double tim;
+    double up_tim;
+    double dow_tim;
+};
+
 /* The state after a row, its status, and the commands of an accepted one: those of a refused one are 0 and mean
  * nothing. */
 struct woldgrater_relief_given {
@@ -305,10 +335,12 @@ struct woldgrater_relief_given {
     struct woldgrater_relief_commands commands;
 };
 
-/* The status of a row, and what the commands of an accepted one are worked from. */
+/* The status of a row, and what the commands of an accepted one are worked from. Beside it the seconds left on its
+ * timers. */
 struct woldgrater_relief_shown {
     uint64_t status;
     struct woldgrater_relief_signals signals;
+    struct woldgrater_relief_left left;
 };
 
 /* The line of a row. */
@@ -344,9 +376,11 @@ struct woldgrater_fed {
  *         if (given.status == WOLDGRATER_ACCEPTED) use given.commands
  *
  * KIND_signals gives what the commands of that row would be worked from, and moves nothing: thresholds, timers, latches and the stage
- * (freeze); enable and delays (economizer); pulses and latches (relief). A relief caller lends the two arrays of its window, which
- * woldgrater_relief_start sets to 0 and woldgrater_relief_row changes; a caller that goes back to an earlier state puts the arrays
- * back with it. */
+ * (freeze); enable and delays (economizer); pulses and latches (relief). Each timer of freeze protection and of the relief fan group has
+ * its mark and its elapsed seconds there, 0 where its input is off or has just come on, and in `left` the seconds until it passes, 0 once
+ * it has. While the input stays on it passes at the first row that much later: exactly so for times in whole seconds, else but for the
+ * rounding of a difference of times (docs/FIRMWARE.md). A relief caller lends the two arrays of its window, which woldgrater_relief_start
+ * sets to 0 and woldgrater_relief_row changes; a caller that goes back to an earlier state puts the arrays back with it. */
 struct woldgrater_freeze_state woldgrater_freeze_start(void);
 struct woldgrater_freeze_given woldgrater_freeze_row(struct woldgrater_freeze_state state, struct woldgrater_freeze_row row);
 struct woldgrater_freeze_shown woldgrater_freeze_signals(struct woldgrater_freeze_state state, struct woldgrater_freeze_row row);

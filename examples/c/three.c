@@ -94,5 +94,6 @@ int main(void)
     }
     printf("last row: stage %" PRIu64 "  lat %" PRIu64 "  lat1 %" PRIu64 "  lat2 %" PRIu64 "\n", shown.signals.stage, shown.signals.lat_y,
            shown.signals.lat1_y, shown.signals.lat2_y);
+    printf("stage 3 is called after %.0f s more: cold for %.0f s\n", shown.left.tim3, shown.signals.calls.tim3.elapsed);
     return 0;
 }

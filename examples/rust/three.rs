@@ -55,7 +55,7 @@ fn play() -> Result<(), u64> {
         let (time, colder) = (60.0 * f64::from(n), 0.25 * f64::from(n));
         let economized = econ.row(econ_sample(time, colder, stage))?;
         let sampled = freeze_sample(time, colder, economized.outdoor_damper_command, economized.return_damper_command);
-        shown = Some(freeze.signals(sampled)?);
+        shown = Some((freeze.signals(sampled)?, freeze.left(sampled)?));
         let protected = freeze.row(sampled)?;
         stage = protected.freeze_protection_stage;
         let group = relief.row(relief_sample(time, fans))?;
@@ -65,8 +65,9 @@ fn play() -> Result<(), u64> {
         let [first, second, third, fourth] = fans;
         println!("pressure {:.2}  fans {first:.2} {second:.2} {third:.2} {fourth:.2}", group.averaged_pressure);
     }
-    if let Some(last) = shown {
+    if let Some((last, left)) = shown {
         println!("last row: stage {}  lat {}  lat1 {}  lat2 {}", last.stage, last.lat_y, last.lat1_y, last.lat2_y);
+        println!("stage 3 is called after {:.0} s more: cold for {:.0} s", left.tim3, last.calls.tim3.elapsed);
     }
     Ok(())
 }

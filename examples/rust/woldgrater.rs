@@ -9,6 +9,13 @@ pub const LINE: usize = 256;
 
 #[repr(C)]
 #[derive(Clone, Copy)]
+pub struct TimerOutput {
+    pub passed: u64,
+    pub elapsed: f64,
+}
+
+#[repr(C)]
+#[derive(Clone, Copy)]
 pub struct FreezeState {
     words: [u64; 68],
 }
@@ -50,16 +57,16 @@ pub struct FreezeCommands {
 #[derive(Clone, Copy)]
 pub struct FreezeCalls {
     pub les_thr_y: u64,
-    pub tim_passed: u64,
+    pub tim: TimerOutput,
     pub gre_thr_y: u64,
-    pub tim1_passed: u64,
+    pub tim1: TimerOutput,
     pub end_sta_one_y: u64,
     pub les_thr1_y: u64,
-    pub tim2_passed: u64,
+    pub tim2: TimerOutput,
     pub hol_sta2_y: u64,
-    pub tim3_passed: u64,
+    pub tim3: TimerOutput,
     pub les_thr2_y: u64,
-    pub tim4_passed: u64,
+    pub tim4: TimerOutput,
 }
 
 #[repr(C)]
@@ -68,7 +75,7 @@ pub struct FreezeSignals {
     pub calls: FreezeCalls,
     pub or8_y: u64,
     pub lat1_y: u64,
-    pub tim5_passed: u64,
+    pub tim5: TimerOutput,
     pub end_sta_two_y: u64,
     pub lat2_y: u64,
     pub or2_y: u64,
@@ -77,6 +84,17 @@ pub struct FreezeSignals {
     pub stage_1_heat: f64,
     pub stage_3_measurement: f64,
     pub stage_3_heat: f64,
+}
+
+#[repr(C)]
+#[derive(Clone, Copy)]
+pub struct FreezeLeft {
+    pub tim: f64,
+    pub tim1: f64,
+    pub tim2: f64,
+    pub tim3: f64,
+    pub tim4: f64,
+    pub tim5: f64,
 }
 
 #[repr(C)]
@@ -92,6 +110,7 @@ pub struct FreezeGiven {
 pub struct FreezeShown {
     pub status: u64,
     pub signals: FreezeSignals,
+    pub left: FreezeLeft,
 }
 
 #[repr(C)]
@@ -223,7 +242,7 @@ pub struct PressureControl {
 pub struct DamperEnable {
     pub damper_open: u64,
     pub damper_close_request: u64,
-    pub damper_clear: u64,
+    pub tim: TimerOutput,
     pub ena_dam: [u64; 4],
 }
 
@@ -236,7 +255,7 @@ pub struct StageUp {
     pub or2: [u64; 4],
     pub all_newly_started_proven: u64,
     pub up_gate: u64,
-    pub up_passed: u64,
+    pub up_tim: TimerOutput,
     pub lat2_y: u64,
 }
 
@@ -249,7 +268,7 @@ pub struct StageDown {
     pub not5: [u64; 4],
     pub all_stopped_matches: u64,
     pub down_gate: u64,
-    pub down_passed: u64,
+    pub dow_tim: TimerOutput,
     pub lat1_y: u64,
 }
 
@@ -260,6 +279,14 @@ pub struct ReliefSignals {
     pub dampers: DamperEnable,
     pub up: StageUp,
     pub down: StageDown,
+}
+
+#[repr(C)]
+#[derive(Clone, Copy)]
+pub struct ReliefLeft {
+    pub tim: f64,
+    pub up_tim: f64,
+    pub dow_tim: f64,
 }
 
 #[repr(C)]
@@ -275,6 +302,7 @@ pub struct ReliefGiven {
 pub struct ReliefShown {
     pub status: u64,
     pub signals: ReliefSignals,
+    pub left: ReliefLeft,
 }
 
 #[repr(C)]
@@ -360,6 +388,12 @@ impl Freeze {
         accepted(shown.status, shown.signals)
     }
 
+    /// The seconds left on each timer at this row.
+    pub fn left(&self, row: FreezeRow) -> Result<FreezeLeft, u64> {
+        let shown = unsafe { woldgrater_freeze_signals(self.state, row) };
+        accepted(shown.status, shown.left)
+    }
+
     pub fn line(row: FreezeRow, out: &mut [u8]) -> Result<&[u8], u64> {
         line(unsafe { woldgrater_freeze_line(row, out.as_mut_ptr(), out.len()) }, out)
     }
@@ -414,6 +448,12 @@ impl Relief {
     pub fn signals(&self, row: ReliefRow) -> Result<ReliefSignals, u64> {
         let shown = unsafe { woldgrater_relief_signals(self.times.as_ptr(), self.integrals.as_ptr(), self.state, row) };
         accepted(shown.status, shown.signals)
+    }
+
+    /// The seconds left on each timer at this row.
+    pub fn left(&self, row: ReliefRow) -> Result<ReliefLeft, u64> {
+        let shown = unsafe { woldgrater_relief_signals(self.times.as_ptr(), self.integrals.as_ptr(), self.state, row) };
+        accepted(shown.status, shown.left)
     }
 
     pub fn line(row: ReliefRow, out: &mut [u8]) -> Result<&[u8], u64> {

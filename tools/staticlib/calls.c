@@ -11,7 +11,7 @@
 #include <stdio.h>
 #include <stdlib.h>
 
-#include "random.h"
+#include "timers.h"
 
 enum { STATUSES = 5, WIDTH = 21 };
 
@@ -155,7 +155,10 @@ static void call_row(void)
     kind->play();
     check_status();
     check_signals();
-    if (status != WOLDGRATER_ACCEPTED) {
+    if (status == WOLDGRATER_ACCEPTED) {
+        const char *timer = untimed();
+        expect(timer ? timer : "timers", timer == NULL);
+    } else {
         expect("a refused row hands the state back", memcmp(given_state, state, kind->state * sizeof *state) == 0);
         expect("a refused row leaves the window", window_left());
     }

@@ -1,4 +1,5 @@
-/* The calls of each kind of rows, a row, a state, commands and signals being the 8-byte words that they consist of. For calls.c. */
+/* The calls of each kind of rows, a row, a state, commands and signals, with what is left on the timers, being the 8-byte words that they
+ * consist of. For calls.c. */
 #include <stddef.h>
 #include <stdint.h>
 #include <string.h>
@@ -11,7 +12,7 @@ enum {
     ROW = WORDS(struct woldgrater_freeze_row),
     COMMANDS = WORDS(struct woldgrater_freeze_commands),
     STATE = WORDS(struct woldgrater_relief_state),
-    SIGNALS = WORDS(struct woldgrater_relief_signals),
+    SIGNALS = WORDS(struct woldgrater_relief_shown) - 1,
     LINE = WOLDGRATER_FREEZE_LINE
 };
 
@@ -55,7 +56,7 @@ static uint8_t *line;
     {                                                                                    \
         struct woldgrater_##kind##_shown made = shown;                                   \
         shown_status = made.status;                                                      \
-        memcpy(signals, &made.signals, sizeof made.signals);                             \
+        memcpy(signals, &made.signals, sizeof made - sizeof made.status);                \
     }                                                                                    \
     static struct woldgrater_line_given kind##_line(size_t room)                         \
     {                                                                                    \
@@ -85,13 +86,13 @@ static const struct kind {
     void (*show)(void);
     struct woldgrater_line_given (*write)(size_t room);
 } kinds[] = {
-    { "freeze", "tuuuuuTbbuuT", "nnfffnfffnn", WORDS(struct woldgrater_freeze_state), WORDS(struct woldgrater_freeze_signals),
+    { "freeze", "tuuuuuTbbuuT", "nnfffnfffnn", WORDS(struct woldgrater_freeze_state), WORDS(struct woldgrater_freeze_shown) - 1,
       offsetof(struct woldgrater_freeze_signals, stage) / 8, 0, WOLDGRATER_FREEZE_LINE, 0, freeze_start, freeze_play, freeze_show,
       freeze_line },
-    { "econ", "tuuvObms", "fnff", WORDS(struct woldgrater_econ_state), WORDS(struct woldgrater_econ_signals),
+    { "econ", "tuuvObms", "fnff", WORDS(struct woldgrater_econ_state), WORDS(struct woldgrater_econ_shown) - 1,
       offsetof(struct woldgrater_econ_signals, minimum_outdoor_air_loop_enabled) / 8, 1, WOLDGRATER_ECON_LINE, 0, econ_start, econ_play,
       econ_show, econ_line },
-    { "relief", "tbbPaaaabbbb", "fffffffff", WORDS(struct woldgrater_relief_state), WORDS(struct woldgrater_relief_signals),
+    { "relief", "tbbPaaaabbbb", "fffffffff", WORDS(struct woldgrater_relief_state), WORDS(struct woldgrater_relief_shown) - 1,
       offsetof(struct woldgrater_relief_signals, control.average) / 8, 0, WOLDGRATER_RELIEF_LINE, 1, relief_start, relief_play,
       relief_show, relief_line },
 };

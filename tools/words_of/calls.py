@@ -2,6 +2,7 @@
 them once; the script does."""
 
 import os
+import re
 
 # what stands in place of what, in this order
 RELIEF = [('Freeze', 'Relief'), ('freeze', 'relief')]
@@ -25,7 +26,9 @@ ECON = [
     ('Freeze', 'Economizer'),
     ('freeze', 'economizer'),
 ]
-# the files that are written so: what they are written from, and the names
+# lines that speak of what is left on freeze protection's timers: the economizer has none
+TIMERS = re.compile('(?<!Line)[Ll]eft')
+# the files that are written so: what they are written from, the names, and which lines are passed over
 FILES = {
     'woldgrater/src/econ.rt': ('woldgrater/src/freeze.rt', ECON),
     'woldgrater/specs/Economizer.antt': ('woldgrater/specs/Freeze.antt', ECON),
@@ -33,9 +36,8 @@ FILES = {
     'woldgrater/proofs/econ/woldgrater_econ_row/Proof.antt': ('woldgrater/proofs/freeze/woldgrater_freeze_row/Proof.antt', ECON),
     'woldgrater/proofs/econ/woldgrater_econ_start/Proof.antt': ('woldgrater/proofs/freeze/woldgrater_freeze_start/Proof.antt', ECON),
     'woldgrater/proofs/relief/relief_answered/Proof.antt': ('woldgrater/proofs/freeze/freeze_answered/Proof.antt', RELIEF),
-    'woldgrater_service/src/econ.rt': ('woldgrater_service/src/freeze.rt', ECON),
+    'woldgrater_service/src/econ.rt': ('woldgrater_service/src/freeze.rt', ECON, TIMERS),
     'woldgrater_service/proofs/econ/woldgrater_econ_line/Proof.antt': ('woldgrater_service/proofs/freeze/woldgrater_freeze_line/Proof.antt', ECON),
-    'woldgrater_service/proofs/econ/woldgrater_econ_signals/Proof.antt': ('woldgrater_service/proofs/freeze/woldgrater_freeze_signals/Proof.antt', ECON),
     'woldgrater_service/proofs/relief/woldgrater_relief_line/Proof.antt': ('woldgrater_service/proofs/freeze/woldgrater_freeze_line/Proof.antt', RELIEF),
 }
 
@@ -48,8 +50,9 @@ def renamed(text, names):
 
 def files(root):
     found = {}
-    for path, (origin, names) in FILES.items():
+    for path, (origin, names, *passed_over) in FILES.items():
         with open(os.path.join(root, 'crates', origin), encoding='utf-8') as source:
+            text = ''.join(line for line in source if not any(lines.search(line) for lines in passed_over))
             mark = '--' if path.endswith('.antt') else '//'
-            found[f'crates/{path}'] = f'{mark} Written by tools/words from what freeze protection has.\n' + renamed(source.read(), names)
+            found[f'crates/{path}'] = f'{mark} Written by tools/words from what freeze protection has.\n' + renamed(text, names)
     return found

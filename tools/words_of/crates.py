@@ -22,7 +22,7 @@ ABOUT = {
 # what is asked of a type: `of`, its words; `value`, what words stand for; `zero`, words that are all 0
 STATES = ['FreezeState', 'EconomizerState', 'ReliefBlocks', 'Integrator', 'RowReader']
 ROWS = ['FreezeRow', 'EconomizerRow', 'ReliefRow']
-GIVEN = ['FreezeCommands', 'EconomizerCommands', 'ReliefCommands', 'FreezeSignals', 'EconomizerSignals', 'ReliefSignals']
+GIVEN = ['FreezeCommands', 'EconomizerCommands', 'ReliefCommands', 'FreezeSignals', 'EconomizerSignals', 'ReliefSignals', 'FreezeLeft', 'ReliefLeft']
 FOLDERS = [f'crates/{crate}/{part}' for crate in ABOUT for part in ('src', 'specs', 'proofs')]
 
 

@@ -8,11 +8,13 @@ from . import declared
 # the states, which C sees as words only, and what the calls take and give, in the order of the header
 OPAQUE = ['FreezeState', 'ReliefWords', 'EconomizerState', 'State']
 SEQUENCES = [
-    ('Freeze protection', ['FreezeState', 'FreezeRow', 'FreezeCommands', 'FreezeCalls', 'FreezeSignals', 'FreezeGiven', 'FreezeShown']),
+    ('Timers', ['TimerOutput']),
+    ('Freeze protection', ['FreezeState', 'FreezeRow', 'FreezeCommands', 'FreezeCalls', 'FreezeSignals', 'FreezeLeft', 'FreezeGiven',
+                           'FreezeShown']),
     ('Economizer', ['EconomizerState', 'EconomizerRow', 'EconomizerCommands', 'DamperLimits', 'EnableSignals', 'EnableLimits', 'EconomizerSignals',
                     'EconomizerGiven', 'EconomizerShown']),
     ('Relief fan group', ['ReliefWords', 'ReliefRow', 'ReliefCommands', 'PressureControl', 'DamperEnable', 'StageUp', 'StageDown', 'ReliefSignals',
-                          'ReliefGiven', 'ReliefShown']),
+                          'ReliefLeft', 'ReliefGiven', 'ReliefShown']),
     ('The line of a row', ['LineGiven']),
     ('Row files', ['State', 'Fed']),
 ]

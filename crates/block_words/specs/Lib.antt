@@ -15,3 +15,4 @@ pub mod PresentTimer
 pub mod Pre
 pub mod TrueDelayOnInit
 pub mod Integrator
+pub mod TimerOutput

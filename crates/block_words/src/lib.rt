@@ -12,6 +12,7 @@ pub mod present_timer;
 pub mod seen;
 pub mod threshold;
 pub mod threshold_mode;
+pub mod timer_output;
 pub mod true_delay;
 pub mod true_delay_on_init;
 pub mod true_false_hold;

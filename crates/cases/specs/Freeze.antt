@@ -76,4 +76,4 @@ abbrev pub isHeld : FreezeSignals → Bool
 isHeld y = y .calls .«hol_sta2_y»
 
 abbrev pub hourPassed : FreezeSignals → Bool
-hourPassed y = y .«tim5_passed»
+hourPassed y = y .tim5 .passed

@@ -33,7 +33,7 @@ use Rattle.freeze_protection.specs.declared.types.FreezeSignals.{FreezeS
 use Rattle.freeze_protection.specs.Constants.{coldStage1, coldStage2, coldStage3, warmLevel, band, fiveMinutes, fifteenMinutes, hour, stage1Setpoint, stage3Setpoint}
 use Rattle.freeze_protection.specs.Signals.{freezeCalls, freezeSignals, stageNumber}
 use Rattle.freeze_protection.specs.Step.{freezeFresh, freezeNext}
-use Rattle.freeze_protection.specs.Reading.{Past, timeOfRow, supplyOf, resetRow, cold, warm, passedFor, holding, endOfHour, recovery, stage1Call, stage3Call, stage}
+use Rattle.freeze_protection.specs.Reading.{Past, timeOfRow, supplyOf, resetRow, cold, warm, passedFor, timedFor, holding, endOfHour, recovery, stage1Call, stage3Call, stage}
 
 -- ---- nothing is true before row 0
 pub cold-none : (l : Float) → cold l [] ≡ false
@@ -143,16 +143,16 @@ stateOf h = record {
 abbrev pub callsOf : Past → FreezeCalls
 callsOf h = record {
   «les_thr_y» = cold coldStage1 h;
-  «tim_passed» = passedFor fiveMinutes (cold coldStage1) h;
+  tim = timedFor fiveMinutes (cold coldStage1) h;
   «gre_thr_y» = warm h;
-  «tim1_passed» = passedFor fiveMinutes warm h;
+  tim1 = timedFor fiveMinutes warm h;
   «end_sta_one_y» = recovery h;
   «les_thr1_y» = cold coldStage2 h;
-  «tim2_passed» = passedFor fiveMinutes (cold coldStage2) h;
+  tim2 = timedFor fiveMinutes (cold coldStage2) h;
   «hol_sta2_y» = holding h;
-  «tim3_passed» = passedFor fifteenMinutes (cold coldStage2) h;
+  tim3 = timedFor fifteenMinutes (cold coldStage2) h;
   «les_thr2_y» = cold coldStage3 h;
-  «tim4_passed» = passedFor fiveMinutes (cold coldStage3) h;
+  tim4 = timedFor fiveMinutes (cold coldStage3) h;
 }
 
 -- the signals at the row x after the past h: the readings; the loops are not read, and keep their outputs
@@ -161,7 +161,7 @@ signalsOf x h = record {
   calls = callsOf (x ∷ h);
   «or8_y» = stage3Call (x ∷ h);
   «lat1_y» = latched stage3Call resetRow (x ∷ h);
-  «tim5_passed» = passedFor hour holding (x ∷ h);
+  tim5 = timedFor hour holding (x ∷ h);
   «end_sta_two_y» = endOfHour (x ∷ h);
   «lat2_y» = latched holding endOfHour (x ∷ h);
   «or2_y» = stage1Call (x ∷ h);

@@ -22,6 +22,7 @@ use Rattle.freeze_protection.specs.Commands.{freezeCommands}
 use Rattle.freeze_protection.specs.Step.{freezeFresh, freezeNext, freezeRow, stepBy}
 use Rattle.freeze_protection.specs.Reading.{Past, timeOfRow, stage, verdictOf}
 use Rattle.freeze_protection.specs.Told.{stageTold, freezeTold, freezeReturned}
+use Rattle.freeze_protection.specs.Left.{freezeLeft, timersOf, timersTold, timersRead}
 use Rattle.freeze_protection.proofs.Blocks.{stateOf, fresh-is, signals-read, next-reads}
 
 -- ---- a row's answer tells its verdict and its stage, and its state moves by its verdict
@@ -50,6 +51,11 @@ module _ (x : FreezeRow) (h : Past) (o : T (inOrder timeOfRow (x ∷ h))) where
   moves : freezeNext (stateOf h) x (freezeSignals (stateOf h) x) ≡ stateOf (x ∷ h)
   moves = rw (signals-read x h o) (next-reads x h o)
 
+  -- the timers too: their elapsed times, and what is left
+  timers-read : timersOf (stateOf h) (freezeSignals (stateOf h) x) ≡ timersRead (x ∷ h)
+  unfolding timersRead freezeLeft
+  timers-read = rw (signals-read x h o)
+
 -- ---- whole lists
 time-finite : (x : FreezeRow) → T (numbersFinite x) → T (finite (x .time))
 unfolding numbersFinite
@@ -70,3 +76,10 @@ freeze-demand-3 =
 pub freeze-demand-3-at : (other : Told ℕ) (rows : List FreezeRow) (i : ℕ) → i < length rows
     → getD (run freezeTold freezeReturned freezeFresh rows) i other ≡ readNewest verdictOf stage other (reverse (take (suc i) rows))
 freeze-demand-3-at other rows i l = rw (freeze-demand-3 rows) (read-at verdictOf stage other [] rows i l)
+
+-- what a display shows of the timers, for every list of rows: the marks, the elapsed times and what is left are those read off the accepted rows
+pub freeze-timers : (rows : List FreezeRow) → run timersTold freezeReturned freezeFresh rows ≡ readAll verdictOf timersRead [] rows
+unfolding freezeVerdict
+freeze-timers =
+    sequence-reads timeOfRow numbersFinite time-finite (λ s. s .last) (λ s x. timersOf s (freezeSignals s x)) (λ s x. freezeNext s x (freezeSignals s x))
+    timersTold freezeReturned (λ s x. refl) returned-is freezeFresh stateOf timersRead fresh-is (λ h. refl) timers-read moves

@@ -1,4 +1,4 @@
--- Freeze protection, to be read in this order: what a row is refused for, every block's output, the commands, the step; then how the past is read.
+-- Freeze protection, to be read in this order: what a row is refused for, every block's output, the commands, the step; then how the past is read, and what a display shows.
 pub mod Constants
 pub mod Verdict
 pub mod Signals
@@ -6,5 +6,6 @@ pub mod Commands
 pub mod Step
 pub mod Reading
 pub mod Told
+pub mod Left
 pub mod Stages
 pub mod Questions

@@ -4,9 +4,10 @@ use mathlib.Core.Bool.{Bool, false, _||_, cond}
 use mathlib.Core.List.{List, [], _∷_}
 use lib.Ieee.{Float, binary64, add, sub, lt}
 use Rattle.reals.specs.Constants.{plusZero}
+use Rattle.logical.specs.declared.timer.TimerOutput.{TimerOutput}
 use Rattle.refusals.specs.declared.Verdict.{Verdict}
 use Rattle.past.specs.Past.{since, rises, latched}
-use Rattle.past.specs.Runs.{passed}
+use Rattle.past.specs.Runs.{passed, heldTimer}
 use Rattle.past.specs.Turns.{hold}
 use Rattle.past.specs.Acceptance.{verdictAfter}
 use Rattle.freeze_protection.specs.declared.types.FreezeRow.{FreezeRow}
@@ -40,6 +41,10 @@ warm h = since (λ s. lt (sub binary64 warmLevel band) (supplyOf s)) (λ s. lt w
 -- u passed n: the unbroken run of u up to here starts at s, and some row after s up to here has time minus time of s at least n
 abbrev pub passedFor : Float → (Past → Bool) → Past → Bool
 passedFor n u h = passed timeOfRow n u h
+
+-- what a timer of n seconds on u shows: whether u passed n, and the time here minus the time of the start of the unbroken run of u up to here, or 0
+abbrev pub timedFor : Float → (Past → Bool) → Past → TimerOutput
+timedFor n u h = heldTimer timeOfRow n u h
 
 -- the hold of stage 2: 3600 s to fall and 0 to rise; its input is cold 276.45 passed 300
 unfoldable pub holding : Past → Bool

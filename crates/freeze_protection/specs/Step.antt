@@ -57,10 +57,10 @@ freezeNext state row signals =
       «gre_thr» = thresholdUpdate (state .«gre_thr») supply;
       lat = latchUpdate (state .lat) (signals .«or2_y») (calls .«end_sta_one_y»);
       tim1 = heldTimerUpdate (state .tim1) t (calls .«gre_thr_y»);
-      «end_sta_one» = edgeUpdate (state .«end_sta_one») (calls .«tim1_passed»);
+      «end_sta_one» = edgeUpdate (state .«end_sta_one») (calls .tim1 .passed);
       «les_thr1» = thresholdUpdate (state .«les_thr1») supply;
       tim2 = heldTimerUpdate (state .tim2) t (calls .«les_thr1_y»);
-      «hol_sta2» = trueFalseHoldUpdate (state .«hol_sta2») t (calls .«tim2_passed»);
+      «hol_sta2» = trueFalseHoldUpdate (state .«hol_sta2») t (calls .tim2 .passed);
       tim3 = heldTimerUpdate (state .tim3) t (calls .«les_thr1_y»);
       «les_thr2» = thresholdUpdate (state .«les_thr2») supply;
       tim4 = heldTimerUpdate (state .tim4) t (calls .«les_thr2_y»);
@@ -68,7 +68,7 @@ freezeNext state row signals =
       «hea_coil_stage_3» = pidUpdate (state .«hea_coil_stage_3») t stage3Setpoint (signals .«stage_3_measurement»);
       tim5 = heldTimerUpdate (state .tim5) t (calls .«hol_sta2_y»);
       lat2 = latchUpdate (state .lat2) (calls .«hol_sta2_y») (signals .«end_sta_two_y»);
-      «end_sta_two» = edgeUpdate (state .«end_sta_two») (signals .«tim5_passed»);
+      «end_sta_two» = edgeUpdate (state .«end_sta_two») (signals .tim5 .passed);
     }
 
 -- a row that is accepted has its commands and moves the state on; a refused one has the refusal, no command, and hands the old state back

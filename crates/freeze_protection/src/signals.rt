@@ -27,28 +27,28 @@ pub fn freeze_calls(state: FreezeState, row: FreezeRow) -> FreezeCalls
     let les_thr2 = state.les_thr2;
     let tim4 = state.tim4;
     let les_thr_y = les_thr.output(supply);
-    let tim_passed = tim.output(t, les_thr_y).passed;
+    let tim = tim.output(t, les_thr_y);
     let gre_thr_y = gre_thr.output(supply);
-    let tim1_passed = tim1.output(t, gre_thr_y).passed;
-    let end_sta_one_y = end_sta_one.output(tim1_passed);
+    let tim1 = tim1.output(t, gre_thr_y);
+    let end_sta_one_y = end_sta_one.output(tim1.passed);
     let les_thr1_y = les_thr1.output(supply);
-    let tim2_passed = tim2.output(t, les_thr1_y).passed;
-    let hol_sta2_y = hol_sta2.output(t, tim2_passed);
-    let tim3_passed = tim3.output(t, les_thr1_y).passed;
+    let tim2 = tim2.output(t, les_thr1_y);
+    let hol_sta2_y = hol_sta2.output(t, tim2.passed);
+    let tim3 = tim3.output(t, les_thr1_y);
     let les_thr2_y = les_thr2.output(supply);
-    let tim4_passed = tim4.output(t, les_thr2_y).passed;
+    let tim4 = tim4.output(t, les_thr2_y);
     FreezeCalls {
         les_thr_y,
-        tim_passed,
+        tim,
         gre_thr_y,
-        tim1_passed,
+        tim1,
         end_sta_one_y,
         les_thr1_y,
-        tim2_passed,
+        tim2,
         hol_sta2_y,
-        tim3_passed,
+        tim3,
         les_thr2_y,
-        tim4_passed,
+        tim4,
     }
 }
 
@@ -78,12 +78,12 @@ pub fn freeze_signals(state: FreezeState, row: FreezeRow) -> FreezeSignals
     let hea_coil_stage_1 = state.hea_coil_stage_1;
     let hea_coil_stage_3 = state.hea_coil_stage_3;
     let calls = freeze_calls(state, row);
-    let or8_y = calls.tim3_passed | calls.tim4_passed;
+    let or8_y = calls.tim3.passed | calls.tim4.passed;
     let lat1_y = lat1.output(or8_y, row.software_reset);
-    let tim5_passed = tim5.output(t, calls.hol_sta2_y).passed;
-    let end_sta_two_y = end_sta_two.output(tim5_passed);
+    let tim5 = tim5.output(t, calls.hol_sta2_y);
+    let end_sta_two_y = end_sta_two.output(tim5.passed);
     let lat2_y = lat2.output(calls.hol_sta2_y, end_sta_two_y);
-    let or2_y = calls.tim_passed | end_sta_two_y;
+    let or2_y = calls.tim.passed | end_sta_two_y;
     let lat_y = lat.output(or2_y, calls.end_sta_one_y);
     let stage = stage_number(lat1_y, lat2_y, lat_y);
     let stage_1_heat = hea_coil_stage_1.output(STAGE_1_SETPOINT, supply);
@@ -93,7 +93,7 @@ pub fn freeze_signals(state: FreezeState, row: FreezeRow) -> FreezeSignals
         calls,
         or8_y,
         lat1_y,
-        tim5_passed,
+        tim5,
         end_sta_two_y,
         lat2_y,
         or2_y,

@@ -88,10 +88,10 @@ pub fn freeze_next(state: FreezeState, row: FreezeRow, signals: FreezeSignals) -
         gre_thr: gre_thr.update(supply),
         lat: lat.update(signals.or2_y, calls.end_sta_one_y),
         tim1: tim1.update(t, calls.gre_thr_y),
-        end_sta_one: end_sta_one.update(calls.tim1_passed),
+        end_sta_one: end_sta_one.update(calls.tim1.passed),
         les_thr1: les_thr1.update(supply),
         tim2: tim2.update(t, calls.les_thr1_y),
-        hol_sta2: hol_sta2.update(t, calls.tim2_passed),
+        hol_sta2: hol_sta2.update(t, calls.tim2.passed),
         tim3: tim3.update(t, calls.les_thr1_y),
         les_thr2: les_thr2.update(supply),
         tim4: tim4.update(t, calls.les_thr2_y),
@@ -99,7 +99,7 @@ pub fn freeze_next(state: FreezeState, row: FreezeRow, signals: FreezeSignals) -
         hea_coil_stage_3: hea_coil_stage_3.update(t, STAGE_3_SETPOINT, signals.stage_3_measurement),
         tim5: tim5.update(t, calls.hol_sta2_y),
         lat2: lat2.update(calls.hol_sta2_y, signals.end_sta_two_y),
-        end_sta_two: end_sta_two.update(signals.tim5_passed),
+        end_sta_two: end_sta_two.update(signals.tim5.passed),
     }
 }
 

@@ -2,6 +2,7 @@
 use logical::edge::EdgeState;
 use logical::held_timer::HeldTimerState;
 use logical::latch::LatchState;
+use logical::timer::TimerOutput;
 use logical::true_false_hold::TrueFalseHoldState;
 use reals::pid::PidState;
 use reals::seen::Seen;
@@ -47,19 +48,19 @@ pub struct FreezeState {
     pub end_sta_two: EdgeState,
 }
 
-// The outputs of the thresholds and of the timers on them: what the temperature calls for.
+// The outputs of the thresholds and the whole answers of the timers on them: what the temperature calls for.
 pub struct FreezeCalls {
     pub les_thr_y: bool,
-    pub tim_passed: bool,
+    pub tim: TimerOutput,
     pub gre_thr_y: bool,
-    pub tim1_passed: bool,
+    pub tim1: TimerOutput,
     pub end_sta_one_y: bool,
     pub les_thr1_y: bool,
-    pub tim2_passed: bool,
+    pub tim2: TimerOutput,
     pub hol_sta2_y: bool,
-    pub tim3_passed: bool,
+    pub tim3: TimerOutput,
     pub les_thr2_y: bool,
-    pub tim4_passed: bool,
+    pub tim4: TimerOutput,
 }
 
 // Every block's output at a row: what the commands and the next state are worked from.
@@ -67,7 +68,7 @@ pub struct FreezeSignals {
     pub calls: FreezeCalls,
     pub or8_y: bool,
     pub lat1_y: bool,
-    pub tim5_passed: bool,
+    pub tim5: TimerOutput,
     pub end_sta_two_y: bool,
     pub lat2_y: bool,
     pub or2_y: bool,
@@ -76,6 +77,17 @@ pub struct FreezeSignals {
     pub stage_1_heat: f64,
     pub stage_3_measurement: f64,
     pub stage_3_heat: f64,
+}
+
+// The seconds left until each timer passes: tim calls stage 1, tim1 ends it, tim2 and its hold begin stage 2, tim3 or tim4 calls stage 3, and tim5 ends stage 2. A
+// timer whose input is off has its whole time left.
+pub struct FreezeLeft {
+    pub tim: f64,
+    pub tim1: f64,
+    pub tim2: f64,
+    pub tim3: f64,
+    pub tim4: f64,
+    pub tim5: f64,
 }
 
 // The outputs, in the order of `Trace`.

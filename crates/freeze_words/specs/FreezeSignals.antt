@@ -2,6 +2,7 @@
 use Rattle.freeze_protection.specs.declared.types.FreezeSignals.{FreezeSignals}
 use Rattle.freeze_words.specs.declared.freeze_signals.FreezeSignalsWords.{FreezeSignalsWords}
 use Rattle.block_words.specs.Flags.{flagWord}
+use Rattle.block_words.specs.TimerOutput.{timerOutputWords, timerOutputZero}
 use Rattle.freeze_words.specs.FreezeCalls.{freezeCallsWords, freezeCallsZero}
 use Rattle.reals.specs.Constants.{plusZero}
 
@@ -11,7 +12,7 @@ freezeSignalsWords s = record {
   calls = freezeCallsWords (s .calls);
   «or8_y» = flagWord (s .«or8_y»);
   «lat1_y» = flagWord (s .«lat1_y»);
-  «tim5_passed» = flagWord (s .«tim5_passed»);
+  tim5 = timerOutputWords (s .tim5);
   «end_sta_two_y» = flagWord (s .«end_sta_two_y»);
   «lat2_y» = flagWord (s .«lat2_y»);
   «or2_y» = flagWord (s .«or2_y»);
@@ -28,7 +29,7 @@ freezeSignalsZero = record {
   calls = freezeCallsZero;
   «or8_y» = 0;
   «lat1_y» = 0;
-  «tim5_passed» = 0;
+  tim5 = timerOutputZero;
   «end_sta_two_y» = 0;
   «lat2_y» = 0;
   «or2_y» = 0;

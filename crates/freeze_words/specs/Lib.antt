@@ -4,3 +4,4 @@ pub mod FreezeRow
 pub mod FreezeCommands
 pub mod FreezeCalls
 pub mod FreezeSignals
+pub mod FreezeLeft

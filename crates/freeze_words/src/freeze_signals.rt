@@ -3,6 +3,7 @@ ghost use mathlib.Core.Path.{_≡_};
 ghost use Rattle.freeze_words.specs.FreezeSignals.{freezeSignalsWords, freezeSignalsZero};
 use crate::freeze_calls::FreezeCallsWords;
 use block_words::flags::flag_word;
+use block_words::timer_output::TimerOutputWords;
 use freeze_protection::types::FreezeSignals;
 
 #[repr(C)]
@@ -10,7 +11,7 @@ pub struct FreezeSignalsWords {
     pub calls: FreezeCallsWords,
     pub or8_y: u64,
     pub lat1_y: u64,
-    pub tim5_passed: u64,
+    pub tim5: TimerOutputWords,
     pub end_sta_two_y: u64,
     pub lat2_y: u64,
     pub or2_y: u64,
@@ -26,11 +27,12 @@ impl FreezeSignalsWords {
         ensures { λ r. ⌜ r ≡ freezeSignalsWords value ⌝ }
     {
         let calls = value.calls;
+        let tim5 = value.tim5;
         FreezeSignalsWords {
             calls: FreezeCallsWords::of(calls),
             or8_y: flag_word(value.or8_y),
             lat1_y: flag_word(value.lat1_y),
-            tim5_passed: flag_word(value.tim5_passed),
+            tim5: TimerOutputWords::of(tim5),
             end_sta_two_y: flag_word(value.end_sta_two_y),
             lat2_y: flag_word(value.lat2_y),
             or2_y: flag_word(value.or2_y),
@@ -49,7 +51,7 @@ impl FreezeSignalsWords {
             calls: FreezeCallsWords::zero(),
             or8_y: 0,
             lat1_y: 0,
-            tim5_passed: 0,
+            tim5: TimerOutputWords::zero(),
             end_sta_two_y: 0,
             lat2_y: 0,
             or2_y: 0,

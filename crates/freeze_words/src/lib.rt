@@ -2,5 +2,6 @@
 pub mod freeze;
 pub mod freeze_calls;
 pub mod freeze_commands;
+pub mod freeze_left;
 pub mod freeze_row;
 pub mod freeze_signals;

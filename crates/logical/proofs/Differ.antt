@@ -8,7 +8,7 @@ use Rattle.reals.specs.Switch.{switch}
 use Rattle.reals.specs.Order.{greater}
 use Rattle.reals.specs.Constants.{whole}
 use Rattle.logical.specs.declared.latch.LatchState.{LatchState}
-use Rattle.logical.specs.Run.{run, TimedInput, at, heldTimerRun, presentTimerRun, trueFalseHoldRun, trueDelayRun, trueDelayOnInitRun}
+use Rattle.logical.specs.Run.{run, TimedInput, at, marks, heldTimerRun, presentTimerRun, trueFalseHoldRun, trueDelayRun, trueDelayOnInitRun}
 use Rattle.logical.specs.Latch.{latchOutput}
 use Rattle.logical.specs.Switch.{logicalSwitch}
 use Rattle.logical.specs.Timer.{entryTime, elapsedTime}
@@ -23,7 +23,7 @@ abbrev pub whileTimeFalls : List TimedInput
 whileTimeFalls = at 0 1 true ∷ at 300 1 true ∷ at 200 1 true ∷ []
 
 -- on the last row the held timer keeps the pass of 300 s, and the present timer has none
-pub timers-differ : (heldTimerRun (whole 300) whileTimeFalls ≡ false ∷ true ∷ true ∷ []) × (presentTimerRun (whole 300) whileTimeFalls ≡ false ∷ true ∷ false ∷ [])
+pub timers-differ : (marks (heldTimerRun (whole 300) whileTimeFalls) ≡ false ∷ true ∷ true ∷ []) × (marks (presentTimerRun (whole 300) whileTimeFalls) ≡ false ∷ true ∷ false ∷ [])
 unfolding heldTimerRun heldTimerNew heldTimerOutput heldTimerUpdate presentTimerRun presentTimerNew presentTimerOutput presentTimerUpdate run entryTime elapsedTime logicalSwitch switch seenElapsed le sub round ofBits
 timers-differ = (refl, refl)
 

@@ -10,9 +10,11 @@ use Rattle.logical.specs.Timer.{entryTime, elapsedTime}
 unfoldable pub presentTimerNew : Float → PresentTimerState
 presentTimerNew threshold = record { threshold = threshold; «entry_time» = Never; «prev_u» = false }
 
--- u is true here and at the row before, and the elapsed time here is the threshold or more
+-- passed: u is true here and at the row before, and the elapsed time here is the threshold or more. Beside it the elapsed time
 unfoldable pub presentTimerOutput : PresentTimerState → Float → Bool → TimerOutput
-presentTimerOutput s t u = record { passed = u && s .«prev_u» && le (s .threshold) (elapsedTime (s .«entry_time») (s .«prev_u») t u) }
+presentTimerOutput s t u =
+    let elapsed = elapsedTime (s .«entry_time») (s .«prev_u») t u in
+    record { passed = u && s .«prev_u» && le (s .threshold) elapsed; elapsed = elapsed }
 
 -- the entry time of this row; u becomes pre(u). The Rust's prev_t is left out, as in the held timer
 unfoldable pub presentTimerUpdate : PresentTimerState → Float → Bool → PresentTimerState

@@ -1,4 +1,4 @@
-// CDL.Logical.Timer, its output passed: `TimerState` of freeze_protection.rs. Once passed it stays so until the input falls.
+// CDL.Logical.Timer: `TimerState` of freeze_protection.rs, with the elapsed time that it works beside its mark. Once passed it stays so until the input falls.
 ghost use mathlib.Core.Path.{_≡_};
 ghost use Rattle.logical.specs.HeldTimer.{heldTimerNew, heldTimerOutput, heldTimerUpdate};
 use crate::switch::logical_switch;
@@ -39,6 +39,7 @@ impl HeldTimerState {
         let reached = logical_switch(reaches, true, kept);
         TimerOutput {
             passed: logical_switch(rises, self.threshold <= 0.0, reached),
+            elapsed,
         }
     }
 

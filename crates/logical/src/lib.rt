@@ -6,7 +6,7 @@ pub mod latch; // CDL.Logical.Latch
 pub mod pre; // CDL.Logical.Pre
 pub mod timer; // what the timers share
 pub mod elapsed_timer; // CDL.Logical.Timer, its output y
-pub mod held_timer; // CDL.Logical.Timer, its output passed: freeze_protection.rs
+pub mod held_timer; // CDL.Logical.Timer, its outputs passed and y: freeze_protection.rs
 pub mod present_timer; // the timer of relief_fan_group.rs, which does not hold its pass
 pub mod true_false_hold; // CDL.Logical.TrueFalseHold
 pub mod true_delay; // CDL.Logical.TrueDelay with delayOnInit=false: economizer_controller.rs

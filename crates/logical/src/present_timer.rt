@@ -1,4 +1,4 @@
-// `TimerState` of relief_fan_group.rs: a timer that does not hold its pass. It tests the present row only.
+// `TimerState` of relief_fan_group.rs, with the elapsed time that it tests: a timer that does not hold its pass. It tests the present row only.
 ghost use mathlib.Core.Path.{_≡_};
 ghost use Rattle.logical.specs.PresentTimer.{presentTimerNew, presentTimerOutput, presentTimerUpdate};
 use crate::timer::TimerOutput;
@@ -31,6 +31,7 @@ impl PresentTimerState {
         let elapsed = elapsed_time(entry, self.prev_u, t, u);
         TimerOutput {
             passed: u & self.prev_u & (elapsed >= self.threshold),
+            elapsed,
         }
     }
 

@@ -1,11 +1,23 @@
-// What the timers share: the time at which the input became true, the time since then, and the form of their answer.
+// What the timers share: the time at which the input became true, the time since then, and their answer.
 ghost use mathlib.Core.Path.{_≡_};
-ghost use Rattle.logical.specs.Timer.{entryTime, elapsedTime};
+ghost use Rattle.logical.specs.Timer.{entryTime, elapsedTime, timerOutputLeft};
+use reals::order::greater;
 use reals::seen::Seen;
 use reals::switch::switch;
 
+// A timer's answer at a row, CDL.Logical.Timer's passed and y: whether its time has passed, and the seconds since its input became true.
 pub struct TimerOutput {
     pub passed: bool,
+    pub elapsed: f64,
+}
+
+impl TimerOutput {
+    // The seconds left until a timer with this threshold passes: the threshold less the elapsed time, not below 0, and 0 once it has passed.
+    pub fn left(self, threshold: f64) -> f64
+        ensures { λ r. ⌜ r ≡ timerOutputLeft self threshold ⌝ }
+    {
+        switch(self.passed, 0.0, greater(threshold - self.elapsed, 0.0))
+    }
 }
 
 // The time at which the input became true, at a row with input u at t; Never while it is false.

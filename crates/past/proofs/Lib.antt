@@ -2,6 +2,7 @@
 -- its start, gives what document 01 reads off that list. Every reading is for any type of row and any signal read off a past.
 pub mod Laws
 pub mod RunLaws
+pub mod ElapsedLaws
 pub mod TurnLaws
 pub mod Stepped
 pub mod LevelReading

@@ -8,8 +8,8 @@ use lib.ListN.{drop}
 use lib.Ieee.{Float, binary64, add, sub, le}
 use Rattle.reals.specs.Constants.{plusZero}
 use Rattle.reals.proofs.Truth.{table1, table3, table5}
-use Rattle.past.specs.Past.{some, sinceWith, row0, rises}
-use Rattle.past.specs.Runs.{timeOf, passed, running, gaps, reached, delayed}
+use Rattle.past.specs.Past.{some, least, sinceWith, row0, rises, runStart}
+use Rattle.past.specs.Runs.{timeOf, passed, running, elapsed, gaps, reached, delayed}
 use Rattle.past.proofs.Laws.{sinceWith-step, sinceWith-none, sinceWith-or, rises-step}
 
 module _ {A : Type 0} (time : A → Float) (u : List A → Bool) (e : u [] ≡ false) where
@@ -18,17 +18,44 @@ module _ {A : Type 0} (time : A → Float) (u : List A → Bool) (e : u [] ≡ f
   lastRise [] = plusZero
   lastRise (x ∷ h) = cond (u (x ∷ h) && not (u h)) (time x) (lastRise h)
 
-  -- the run up to here starts at the last rise, and there is a run exactly where u is true here
-  pub run-start : (f : Float → Bool) (h : List A) → sinceWith u (rises u) (λ k. f (timeOf time (drop k h))) h ≡ (u h && f (lastRise h))
-  run-start f [] = rw (e, sinceWith-none u (rises u) (λ k. f (timeOf time (drop {A = A} k [])))) refl
-  run-start f (x ∷ h) =
-      sinceWith-step u (rises u) (λ k. f (timeOf time (drop {A = A} k (x ∷ h)))) x h
-      ∙ ap₂ (λ (a b : Bool). a && f (time x) || u (x ∷ h) && b) (rises-step u e x h) (run-start f h)
-      ∙ go (u (x ∷ h)) (u h)
+  start-step : (x : A) (h : List A) → runStart u (x ∷ h) ≡ cond (u (x ∷ h) && not (u h)) 0 (suc (runStart u h))
+  unfolding runStart least
+  start-step x h = ap (λ (r : Bool). cond r 0 (suc (runStart u h))) (rises-step u e x h)
+
+  -- there is an unbroken true run up to here exactly where u is true here, and it starts at the last rise
+  pub run-is : (f : ℕ → Bool) (h : List A) → sinceWith u (rises u) f h ≡ (u h && f (runStart u h))
+  run-is f [] = rw (e, sinceWith-none u (rises u) f) refl
+  run-is f (x ∷ h) =
+      sinceWith-step u (rises u) f x h
+      ∙ ap₂ (λ (a b : Bool). a && f 0 || u (x ∷ h) && b) (rises-step u e x h) (run-is (λ k. f (suc k)) h)
+      ∙ go (u (x ∷ h)) (u h) (runStart u h)
+      ∙ ap (λ (k : ℕ). u (x ∷ h) && f k) (sym (start-step x h))
     where
-      go : (a b : Bool) → (a && not b && f (time x) || a && (b && f (lastRise h))) ≡ (a && f (cond (a && not b) (time x) (lastRise h)))
+      go : (a b : Bool) (k : ℕ) → (a && not b && f 0 || a && (b && f (suc k))) ≡ (a && f (cond (a && not b) 0 (suc k)))
+      go true true k = refl
+      go true false k = table1 (λ c. c || false) (λ c. c) tt (f 0)
+      go false b k = refl
+
+  -- the time of its start
+  pub start-time : (h : List A) → timeOf time (drop (runStart u h) h) ≡ lastRise h
+  start-time [] = unfold runStart least in refl
+  start-time (x ∷ h) = ap (λ (k : ℕ). timeOf time (drop k (x ∷ h))) (start-step x h) ∙ go (u (x ∷ h) && not (u h)) (start-time h)
+    where
+      go : (r : Bool) → timeOf time (drop (runStart u h) h) ≡ lastRise h → timeOf time (drop (cond r 0 (suc (runStart u h))) (x ∷ h)) ≡ cond r (time x) (lastRise h)
+      go true q = refl
+      go false q = q
+
+  pub run-start : (f : Float → Bool) (h : List A) → sinceWith u (rises u) (λ k. f (timeOf time (drop k h))) h ≡ (u h && f (lastRise h))
+  run-start f h = run-is (λ k. f (timeOf time (drop k h))) h ∙ ap (λ (t : Float). u h && f t) (start-time h)
+
+  -- the elapsed time: from the last rise, where u is true here and was on the row before
+  pub elapsed-step : (x : A) (h : List A) → elapsed time u (x ∷ h) ≡ cond (u (x ∷ h) && u h) (sub binary64 (time x) (lastRise h)) plusZero
+  unfolding elapsed
+  elapsed-step x h = rw (start-time (x ∷ h), rises-step u e x h) (go (u (x ∷ h)) (u h))
+    where
+      go : (a b : Bool) → cond (a && not (a && not b)) (sub binary64 (time x) (cond (a && not b) (time x) (lastRise h))) plusZero ≡ cond (a && b) (sub binary64 (time x) (lastRise h)) plusZero
       go true true = refl
-      go true false = table1 (λ c. c || false) (λ c. c) tt (f (time x))
+      go true false = refl
       go false b = refl
 
   pub passed-step : (n : Float) (x : A) (h : List A)

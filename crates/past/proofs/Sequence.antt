@@ -18,7 +18,7 @@ use Rattle.past.proofs.Judged.{judged-in-order}
 use Rattle.past.proofs.Whole.{run-reads}
 
 -- a value, and a state, count only where the row is accepted
-told-where-accepted : {Y : Type 0} (v : Verdict) (a b : Y) → (v ≡ Accepted → a ≡ b) → toldBy v a ≡ toldBy v b
+pub told-where-accepted : {Y : Type 0} (v : Verdict) (a b : Y) → (v ≡ Accepted → a ≡ b) → toldBy v a ≡ toldBy v b
 told-where-accepted Accepted a b f = ap Taken (f refl)
 told-where-accepted (Refused r) a b f = refl
 

@@ -1,5 +1,5 @@
--- The timers and the 2 s delay: freeze's timer holds its pass, so it reads as `passed`; relief's timer and delay test the present row only, and read as
--- `running`. Assumes nothing.
+-- The timers and the 2 s delay: freeze's timer holds its pass, so its mark reads as `passed`; relief's timer and delay test the present row only, and read as
+-- `running`. The elapsed time of both timers reads as `elapsed`. Assumes nothing.
 use mathlib.Core.Path.{_≡_, refl, sym, ap, _∙_}
 use mathlib.Core.Bool.{Bool, true, false, not, _&&_, _||_, cond}
 use mathlib.Core.List.{List, [], _∷_}
@@ -21,9 +21,9 @@ use Rattle.logical.specs.Timer.{entryTime, elapsedTime}
 use Rattle.logical.specs.HeldTimer.{heldTimerNew, heldTimerOutput, heldTimerUpdate}
 use Rattle.logical.specs.PresentTimer.{presentTimerNew, presentTimerOutput, presentTimerUpdate}
 use Rattle.logical.specs.TrueDelayOnInit.{trueDelayOnInitNew, trueDelayOnInitOutput, trueDelayOnInitUpdate}
-use Rattle.past.specs.Runs.{timeOf, passed, running}
+use Rattle.past.specs.Runs.{timeOf, passed, running, elapsed, heldTimer, presentTimer}
 use Rattle.past.specs.Stepped.{stepped}
-use Rattle.past.proofs.RunLaws.{lastRise, passed-step, passed-none, running-step}
+use Rattle.past.proofs.RunLaws.{lastRise, passed-step, passed-none, running-step, elapsed-step}
 use Rattle.past.proofs.Stepped.{stepped-is}
 
 -- u is false before row 0, and the threshold n is above 0
@@ -41,6 +41,15 @@ module _ {A : Type 0} (time : A → Float) (n : Float) (u : List A → Bool) (e 
       go true false r = refl
       go false b r = refl
 
+  elapsed-reads : (x : A) (h : List A) → elapsedTime (entryOf h) (u h) (time x) (u (x ∷ h)) ≡ elapsed time u (x ∷ h)
+  unfolding elapsedTime switch seenElapsed
+  elapsed-reads x h = rw (elapsed-step time u e x h) (go (u (x ∷ h)) (u h) (lastRise time u e h))
+    where
+      go : (a b : Bool) (r : Float) → cond (a && b) (seenElapsed (cond b (At r) Never) (time x)) plusZero ≡ cond (a && b) (sub binary64 (time x) r) plusZero
+      go true true r = refl
+      go true false r = refl
+      go false b r = refl
+
   -- ---- freeze's timer
   abbrev pub heldTimerOf : List A → HeldTimerState
   heldTimerOf h = record { threshold = n; «entry_time» = entryOf h; «prev_u» = u h; passed = passed time n u h }
@@ -54,9 +63,9 @@ module _ {A : Type 0} (time : A → Float) (n : Float) (u : List A → Bool) (e 
   not-passed [] = rw (passed-none time u e n, e) refl
   not-passed (y ∷ h) = rw (passed-step time u e n y h) (table2 (λ a b. a && b) (λ a b. a && (a && b)) tt (u (y ∷ h)) (u h && le n (sub binary64 (time y) (lastRise time u e h)) || passed time n u h))
 
-  pub held-timer-output : (x : A) (h : List A) → heldTimerOutput (heldTimerOf h) (time x) (u (x ∷ h)) .passed ≡ passed time n u (x ∷ h)
+  held-passed : (x : A) (h : List A) → heldTimerOutput (heldTimerOf h) (time x) (u (x ∷ h)) .passed ≡ passed time n u (x ∷ h)
   unfolding heldTimerOutput elapsedTime logicalSwitch switch seenElapsed
-  held-timer-output x h =
+  held-passed x h =
       rw (passed-step time u e n x h, positive)
       (ap (λ (p : Bool). cond (u (x ∷ h) && not (u h)) false (cond (u (x ∷ h) && le n (cond (u (x ∷ h) && u h) (seenElapsed (entryOf h) (time x)) plusZero)) true (cond (not (u (x ∷ h)) && u h) false p))) (not-passed h)
       ∙ go (u (x ∷ h)) (u h) (passed time n u h) (lastRise time u e h)
@@ -70,12 +79,16 @@ module _ {A : Type 0} (time : A → Float) (n : Float) (u : List A → Bool) (e 
       go false true p r = refl
       go false false p r = refl
 
+  pub held-timer-output : (x : A) (h : List A) → heldTimerOutput (heldTimerOf h) (time x) (u (x ∷ h)) ≡ heldTimer time n u (x ∷ h)
+  unfolding heldTimerOutput
+  held-timer-output x h = λ i. record { passed = held-passed x h i; elapsed = elapsed-reads x h i }
+
   pub held-timer-update : (x : A) (h : List A) → heldTimerUpdate (heldTimerOf h) (time x) (u (x ∷ h)) ≡ heldTimerOf (x ∷ h)
   unfolding heldTimerUpdate
   held-timer-update x h = rw (held-timer-output x h, entry-step x h) refl
 
   pub held-timer-reads : (x : A) (h : List A)
-      → heldTimerOutput (stepped (heldTimerNew n) (λ s p. heldTimerUpdate s (timeOf time p) (u p)) h) (time x) (u (x ∷ h)) .passed ≡ passed time n u (x ∷ h)
+      → heldTimerOutput (stepped (heldTimerNew n) (λ s p. heldTimerUpdate s (timeOf time p) (u p)) h) (time x) (u (x ∷ h)) ≡ heldTimer time n u (x ∷ h)
   held-timer-reads x h = rw (stepped-is (heldTimerNew n) (λ s p. heldTimerUpdate s (timeOf time p) (u p)) heldTimerOf held-timer-new held-timer-update h) (held-timer-output x h)
 
   -- ---- relief's timer
@@ -90,22 +103,32 @@ module _ {A : Type 0} (time : A → Float) (n : Float) (u : List A → Bool) (e 
   at-rise : (x : A) → T (finite (time x)) → le n (sub binary64 (time x) (time x)) ≡ false
   at-rise x f = rw (self-gap (time x) f) positive
 
-  pub present-timer-output : (x : A) (h : List A) → T (finite (time x)) → presentTimerOutput (presentTimerOf h) (time x) (u (x ∷ h)) .passed ≡ running time n u (x ∷ h)
+  present-passed : (x : A) (h : List A) → T (finite (time x)) → presentTimerOutput (presentTimerOf h) (time x) (u (x ∷ h)) .passed ≡ running time n u (x ∷ h)
   unfolding presentTimerOutput elapsedTime switch seenElapsed
-  present-timer-output x h f = rw (running-step time u e n x h) (go (u (x ∷ h)) (u h) (lastRise time u e h))
+  present-passed x h f = rw (running-step time u e n x h) (go (u (x ∷ h)) (u h) (lastRise time u e h))
     where
       go : (a b : Bool) (r : Float) → (a && b && le n (cond (a && b) (seenElapsed (cond b (At r) Never) (time x)) plusZero)) ≡ (a && le n (sub binary64 (time x) (cond (a && not b) (time x) r)))
       go true true r = refl
       go true false r = sym (at-rise x f)
       go false b r = refl
 
+  pub present-timer-output : (x : A) (h : List A) → T (finite (time x)) → presentTimerOutput (presentTimerOf h) (time x) (u (x ∷ h)) ≡ presentTimer time n u (x ∷ h)
+  unfolding presentTimerOutput
+  present-timer-output x h f = λ i. record { passed = present-passed x h f i; elapsed = elapsed-reads x h i }
+
   pub present-timer-update : (x : A) (h : List A) → presentTimerUpdate (presentTimerOf h) (time x) (u (x ∷ h)) ≡ presentTimerOf (x ∷ h)
   unfolding presentTimerUpdate
   present-timer-update x h = rw (entry-step x h) refl
 
   pub present-timer-reads : (x : A) (h : List A) → T (finite (time x))
-      → presentTimerOutput (stepped (presentTimerNew n) (λ s p. presentTimerUpdate s (timeOf time p) (u p)) h) (time x) (u (x ∷ h)) .passed ≡ running time n u (x ∷ h)
+      → presentTimerOutput (stepped (presentTimerNew n) (λ s p. presentTimerUpdate s (timeOf time p) (u p)) h) (time x) (u (x ∷ h)) ≡ presentTimer time n u (x ∷ h)
   present-timer-reads x h f = rw (stepped-is (presentTimerNew n) (λ s p. presentTimerUpdate s (timeOf time p) (u p)) presentTimerOf present-timer-new present-timer-update h) (present-timer-output x h f)
+
+  -- its elapsed time, over any times at all
+  pub present-elapsed-reads : (x : A) (h : List A)
+      → presentTimerOutput (stepped (presentTimerNew n) (λ s p. presentTimerUpdate s (timeOf time p) (u p)) h) (time x) (u (x ∷ h)) .elapsed ≡ elapsed time u (x ∷ h)
+  unfolding presentTimerOutput
+  present-elapsed-reads x h = rw (stepped-is (presentTimerNew n) (λ s p. presentTimerUpdate s (timeOf time p) (u p)) presentTimerOf present-timer-new present-timer-update h) (elapsed-reads x h)
 
   -- ---- relief's delay
   abbrev pub trueDelayOnInitOf : List A → TrueDelayOnInitState

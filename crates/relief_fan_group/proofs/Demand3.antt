@@ -22,7 +22,7 @@ use Rattle.past.specs.Whole.{Told, toldBy, nextBy, stateAfter, readAll}
 use Rattle.past.specs.Whole as whole
 use Rattle.past.proofs.Stepped.{time-here}
 use Rattle.past.proofs.Whole.{good-accepted, state-is, run-reads, read-at, readNewest}
-use Rattle.past.proofs.Sequence.{in-order}
+use Rattle.past.proofs.Sequence.{in-order, told-where-accepted}
 use Rattle.moving_average.specs.Past.{belowLast, timeAccepted, accepted, windowIsFull, movingAverageOf}
 use Rattle.moving_average.specs.State.{movingAverageIsFull}
 use Rattle.moving_average.proofs.Accepted.{accepted-cons}
@@ -36,7 +36,8 @@ use Rattle.relief_fan_group.specs.Step.{reliefFresh, reliefRow, signalsA
 use Rattle.relief_fan_group.specs.Reading.{Past, timeOfRow, pressureOfRow, mean, ReliefReading, reliefReading, verdictOf}
 use Rattle.relief_fan_group.specs.Blocks.{blocksOf, signalsOf}
 use Rattle.relief_fan_group.specs.Told.{pulsesTold, reliefTold, reliefReturned}
-use Rattle.relief_fan_group.proofs.Blocks.{stateOf, signals-are, fresh-is, up-pulse, down-pulse, last-reads}
+use Rattle.relief_fan_group.specs.Left.{timersOf, timersTold, timersRead}
+use Rattle.relief_fan_group.proofs.Blocks.{stateOf, signals-are, fresh-is, up-pulse, down-pulse, last-reads, timers-read}
 
 -- ---- what holds of the accepted rows: their times are in order, and the window had room for each
 abbrev pub good : Past → Bool
@@ -98,7 +99,7 @@ good-more x h g e =
 -- ---- the answer and the returned state of a row after the past h
 -- the signals of an accepted row are the readings
 pub reads-here : (x : ReliefRow) (h : Past) → T (inOrder timeOfRow (x ∷ h))
-    → _≡_ {A = ReliefReading} (record { mean = signalsOf x h .control .average; up = signalsOf x h .up .«up_passed»; down = signalsOf x h .down .«down_passed» }) (reliefReading (x ∷ h))
+    → _≡_ {A = ReliefReading} (record { mean = signalsOf x h .control .average; up = signalsOf x h .up .«up_tim» .passed; down = signalsOf x h .down .«dow_tim» .passed }) (reliefReading (x ∷ h))
 unfolding reliefReading
 reads-here x h o = rw (up-pulse x h o, down-pulse x h o) (unfold reliefSignals pressureControl in refl)
 
@@ -144,3 +145,13 @@ pub commands-are : (x : ReliefRow) (l : List ReliefRow) → verdictOf (whole.acc
     → reliefRow (stateAfter reliefReturned reliefFresh l) x .answer ≡ Answer.Commands (reliefCommands x (signalsOf x (whole.accepted verdictOf l)))
 unfolding reliefRow
 commands-are x l e = rw (state-after l, verdict-is x (whole.accepted verdictOf l) (accepted-good l), e) (unfold stepBy in rw (signals-are x (whole.accepted verdictOf l)) refl)
+
+-- ---- what a display shows of the timers
+shows : (x : ReliefRow) (h : Past) → T (good h) → timersTold (stateOf h) x ≡ toldBy (verdictOf h x) (timersRead (x ∷ h))
+shows x h g =
+    rw (verdict-is x h g, signals-are x h)
+    (told-where-accepted (verdictOf h x) (timersOf (blocksOf h) (signalsOf x h)) (timersRead (x ∷ h)) (λ e. timers-read x h (good-order (x ∷ h) (good-more x h g e))))
+
+-- for every list of rows: the marks, the elapsed times and what is left are those read off the accepted rows
+pub relief-timers : (rows : List ReliefRow) → run timersTold reliefReturned reliefFresh rows ≡ readAll verdictOf timersRead [] rows
+relief-timers rows = rw fresh-is (run-reads verdictOf good timersRead timersTold reliefReturned stateOf good-none good-more shows moves rows)

@@ -17,6 +17,7 @@ use Rattle.logical.specs.Pre.{preNew, preOutput, preUpdate}
 use Rattle.logical.specs.PresentTimer.{presentTimerNew, presentTimerOutput, presentTimerUpdate}
 use Rattle.reals.proofs.Truth.{is-true, is-false, holds, fails}
 use Rattle.reals.proofs.Times.{self-gap}
+use Rattle.past.specs.Runs.{presentTimer}
 use Rattle.past.specs.Turns.{values, pulse}
 use Rattle.past.proofs.Laws.{since-none}
 use Rattle.past.proofs.RunLaws.{lastRise, running-step}
@@ -65,8 +66,11 @@ module _ {A : Type 0} (time : A → Float) (v : List A → Float) (w : Way) wher
     gate-reads = rw (r .thr-is, r .pre-is, threshold-output v (w .mode) (w .level) (w .hysteresis) (w .banded) x h) refl
 
     module _ (f : T (finite (time x))) (g : Bool) (e : g ≡ gateOf (x ∷ h)) where
+      pub timer-reads : presentTimerOutput tim (time x) g ≡ presentTimer time (w .seconds) gateOf (x ∷ h)
+      timer-reads = rw (r .tim-is, e) (present-timer-output time (w .seconds) gateOf gate-none (w .positive) x h f)
+
       pub pulse-reads : presentTimerOutput tim (time x) g .passed ≡ pulse time (w .seconds) request (x ∷ h)
-      pulse-reads = rw (r .tim-is, e, present-timer-output time (w .seconds) gateOf gate-none (w .positive) x h f) (sym (pulse-law time (w .seconds) request (x ∷ h)))
+      pulse-reads = rw timer-reads (sym (pulse-law time (w .seconds) request (x ∷ h)))
 
       pub one-further : (p : Bool) → p ≡ pulse time (w .seconds) request (x ∷ h) → Reads (thresholdUpdate thr (v (x ∷ h))) (presentTimerUpdate tim (time x) g) (preUpdate pre (not p)) (x ∷ h)
       one-further p q =

@@ -7,5 +7,6 @@ pub mod Step
 pub mod Lent
 pub mod Reading
 pub mod Told
+pub mod Left
 pub mod Blocks
 pub mod Alarms

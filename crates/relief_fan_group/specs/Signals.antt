@@ -49,17 +49,17 @@ unfoldable pub damperEnable : ReliefBlocks → ReliefRow → PressureControl →
 damperEnable blocks row control =
     let opening = thresholdOutput (blocks .«gre_thr») (control .controller) && control .«ena_rel_group» in
     let closing = thresholdOutput (blocks .«les_thr») (control .controller) in
-    let clear = presentTimerOutput (blocks .tim) (row .time) closing .passed in
+    let tim = presentTimerOutput (blocks .tim) (row .time) closing in
     record {
       «damper_open» = opening;
       «damper_close_request» = closing;
-      «damper_clear» = clear;
-      «ena_dam» = andEach (thresholdOutputs (blocks .«gre_thr1») (control .gai)) (latchOutput (blocks .lat) opening clear);
+      tim = tim;
+      «ena_dam» = andEach (thresholdOutputs (blocks .«gre_thr1») (control .gai)) (latchOutput (blocks .lat) opening (tim .passed));
     }
 
 -- stage up. The next fan has the smallest order: while some fan is proven on, of the fans enabled and not proven on (lesThr1 marks the others); while all are off, of
 -- all four (swi3), so that where one supply fan is off both fans of that supply, whose order is 0, are next. or2: the fans that should then be on; each has 2 s (truDel)
--- before its proof is asked. The up pulse: 7 minutes (upTim) of requests (greThr2) with no pulse on the row before (pre). The pulse sets the stage latch
+-- before its proof is asked. The up pulse, upTim's pass: 7 minutes of requests (greThr2) with no pulse on the row before (pre). The pulse sets the stage latch
 -- (lat2), and it is cleared where the delayed start of every fan equals its proof
 unfoldable pub stageUp : ReliefBlocks → ReliefRow → PressureControl → StageUp
 stageUp blocks row control =
@@ -71,7 +71,7 @@ stageUp blocks row control =
     let or2 = orEach (thresholdOutputs (blocks .«les_thr2») away) proof in
     let proven = allOf (equalEach (delayOutputs (blocks .«tru_del») (row .time) or2) proof) in
     let gate = thresholdOutput (blocks .«gre_thr2») (control .controller) && preOutput (blocks .pre) in
-    let pulse = presentTimerOutput (blocks .«up_tim») (row .time) gate .passed in
+    let upTim = presentTimerOutput (blocks .«up_tim») (row .time) gate in
     record {
       «all_fans_off» = off;
       pro1 = waiting;
@@ -79,12 +79,12 @@ stageUp blocks row control =
       or2 = or2;
       «all_newly_started_proven» = proven;
       «up_gate» = gate;
-      «up_passed» = pulse;
-      «lat2_y» = latchOutput (blocks .lat2) pulse proven;
+      «up_tim» = upTim;
+      «lat2_y» = latchOutput (blocks .lat2) (upTim .passed) proven;
     }
 
 -- stage down. The next fan is the one with the smallest order among those enabled and proven on (lesThr4 marks the others); xor: the fans that should then be on; 2 s (truDel1).
--- The down pulse: 5 minutes (dowTim) of requests (lesThr3) with no pulse on the row before (pre1). It sets its stage latch (lat1), which is cleared where every fan's
+-- The down pulse, dowTim's pass: 5 minutes of requests (lesThr3) with no pulse on the row before (pre1). It sets its stage latch (lat1), which is cleared where every fan's
 -- proof differs from its delayed stop
 unfoldable pub stageDown : ReliefBlocks → ReliefRow → PressureControl → StageDown
 stageDown blocks row control =
@@ -96,7 +96,7 @@ stageDown blocks row control =
     let not5 = notEach xor in
     let matched = allOf (xorEach proof (delayOutputs (blocks .«tru_del1») (row .time) not5)) in
     let gate = thresholdOutput (blocks .«les_thr3») (control .controller) && preOutput (blocks .pre1) in
-    let pulse = presentTimerOutput (blocks .«dow_tim») (row .time) gate .passed in
+    let dowTim = presentTimerOutput (blocks .«dow_tim») (row .time) gate in
     record {
       pro2 = running;
       «down_distance» = away;
@@ -104,8 +104,8 @@ stageDown blocks row control =
       not5 = not5;
       «all_stopped_matches» = matched;
       «down_gate» = gate;
-      «down_passed» = pulse;
-      «lat1_y» = latchOutput (blocks .lat1) pulse matched;
+      «dow_tim» = dowTim;
+      «lat1_y» = latchOutput (blocks .lat1) (dowTim .passed) matched;
     }
 
 -- all four parts, worked from the mean

@@ -66,22 +66,22 @@ reliefNext blocks row signals =
       «gre_thr» = thresholdUpdate (blocks .«gre_thr») u;
       «les_thr» = thresholdUpdate (blocks .«les_thr») u;
       tim = presentTimerUpdate (blocks .tim) t (signals .dampers .«damper_close_request»);
-      lat = latchUpdate (blocks .lat) (signals .dampers .«damper_open») (signals .dampers .«damper_clear»);
+      lat = latchUpdate (blocks .lat) (signals .dampers .«damper_open») (signals .dampers .tim .passed);
       «gre_thr1» = thresholdUpdates (blocks .«gre_thr1») (control .gai);
       «gre_thr2» = thresholdUpdate (blocks .«gre_thr2») u;
       «up_tim» = presentTimerUpdate (blocks .«up_tim») t (up .«up_gate»);
-      pre = preUpdate (blocks .pre) (not (up .«up_passed»));
+      pre = preUpdate (blocks .pre) (not (up .«up_tim» .passed));
       «les_thr1» = thresholdUpdates (blocks .«les_thr1») (up .pro1);
       «les_thr2» = thresholdUpdates (blocks .«les_thr2») (up .«up_distance»);
       «tru_del» = delayUpdates (blocks .«tru_del») t (up .or2);
-      lat2 = latchUpdate (blocks .lat2) (up .«up_passed») (up .«all_newly_started_proven»);
+      lat2 = latchUpdate (blocks .lat2) (up .«up_tim» .passed) (up .«all_newly_started_proven»);
       «les_thr3» = thresholdUpdate (blocks .«les_thr3») u;
       «dow_tim» = presentTimerUpdate (blocks .«dow_tim») t (down .«down_gate»);
-      pre1 = preUpdate (blocks .pre1) (not (down .«down_passed»));
+      pre1 = preUpdate (blocks .pre1) (not (down .«dow_tim» .passed));
       «les_thr4» = thresholdUpdates (blocks .«les_thr4») (down .pro2);
       «les_thr5» = thresholdUpdates (blocks .«les_thr5») (down .«down_distance»);
       «tru_del1» = delayUpdates (blocks .«tru_del1») t (down .not5);
-      lat1 = latchUpdate (blocks .lat1) (down .«down_passed») (down .«all_stopped_matches»);
+      lat1 = latchUpdate (blocks .lat1) (down .«dow_tim» .passed) (down .«all_stopped_matches»);
       «gre_thr3» = thresholdUpdates (blocks .«gre_thr3») (control .«ena_rel»);
     }
 

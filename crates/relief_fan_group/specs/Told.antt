@@ -10,7 +10,7 @@ use Rattle.relief_fan_group.specs.Step.{signalsAt, reliefRow}
 
 -- of an answer, the refusal, or the mean among its commands beside the pulses among the signals
 abbrev pub pulsesTold : ReliefAnswer → ReliefSignals → Told ReliefReading
-pulsesTold (Answer.Commands c) signals = Taken (record { mean = c .«averaged_pressure»; up = signals .up .«up_passed»; down = signals .down .«down_passed» })
+pulsesTold (Answer.Commands c) signals = Taken (record { mean = c .«averaged_pressure»; up = signals .up .«up_tim» .passed; down = signals .down .«dow_tim» .passed })
 pulsesTold (Answer.Refused r) signals = NotTaken r
 
 -- of a row handed to a state: what its answer tells, with the signals that the answer's commands are worked from, and the state that it returns

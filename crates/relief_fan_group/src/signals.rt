@@ -73,13 +73,13 @@ pub fn damper_enable(blocks: ReliefBlocks, row: ReliefRow, control: PressureCont
     let gre_thr1 = blocks.gre_thr1;
     let damper_open = gre_thr.output(control.controller) & control.ena_rel_group;
     let damper_close_request = les_thr.output(control.controller);
-    let damper_clear = tim.output(t, damper_close_request).passed;
-    let lat_y = lat.output(damper_open, damper_clear);
+    let tim = tim.output(t, damper_close_request);
+    let lat_y = lat.output(damper_open, tim.passed);
     let ena_dam = and_each(threshold_outputs(gre_thr1, gai), lat_y);
     DamperEnable {
         damper_open,
         damper_close_request,
-        damper_clear,
+        tim,
         ena_dam,
     }
 }
@@ -107,8 +107,8 @@ pub fn stage_up(blocks: ReliefBlocks, row: ReliefRow, control: PressureControl) 
     let or2 = or_each(threshold_outputs(les_thr2, up_distance), proof);
     let all_newly_started_proven = all_of(equal_each(delay_outputs(tru_del, t, or2), proof));
     let up_gate = gre_thr2.output(control.controller) & pre.output();
-    let up_passed = up_tim.output(t, up_gate).passed;
-    let lat2_y = lat2.output(up_passed, all_newly_started_proven);
+    let up_tim = up_tim.output(t, up_gate);
+    let lat2_y = lat2.output(up_tim.passed, all_newly_started_proven);
     StageUp {
         all_fans_off,
         pro1,
@@ -116,7 +116,7 @@ pub fn stage_up(blocks: ReliefBlocks, row: ReliefRow, control: PressureControl) 
         or2,
         all_newly_started_proven,
         up_gate,
-        up_passed,
+        up_tim,
         lat2_y,
     }
 }
@@ -142,8 +142,8 @@ pub fn stage_down(blocks: ReliefBlocks, row: ReliefRow, control: PressureControl
     let not5 = not_each(xor);
     let all_stopped_matches = all_of(xor_each(proof, delay_outputs(tru_del1, t, not5)));
     let down_gate = les_thr3.output(control.controller) & pre1.output();
-    let down_passed = dow_tim.output(t, down_gate).passed;
-    let lat1_y = lat1.output(down_passed, all_stopped_matches);
+    let dow_tim = dow_tim.output(t, down_gate);
+    let lat1_y = lat1.output(dow_tim.passed, all_stopped_matches);
     StageDown {
         pro2,
         down_distance,
@@ -151,7 +151,7 @@ pub fn stage_down(blocks: ReliefBlocks, row: ReliefRow, control: PressureControl
         not5,
         all_stopped_matches,
         down_gate,
-        down_passed,
+        dow_tim,
         lat1_y,
     }
 }

@@ -2,6 +2,7 @@
 use logical::latch::LatchState;
 use logical::pre::PreState;
 use logical::present_timer::PresentTimerState;
+use logical::timer::TimerOutput;
 use logical::true_delay_on_init::TrueDelayOnInitState;
 use moving_average::state::MovingAverageState;
 use reals::seen::Seen;
@@ -59,15 +60,15 @@ pub struct PressureControl {
     pub any_enabled: bool,
 }
 
-// The dampers of stage zero.
+// The dampers of stage zero, and the timer whose pass shuts them.
 pub struct DamperEnable {
     pub damper_open: bool,
     pub damper_close_request: bool,
-    pub damper_clear: bool,
+    pub tim: TimerOutput,
     pub ena_dam: [bool; 4],
 }
 
-// The next fan to start, the up pulse and the latch that it sets.
+// The next fan to start, the timer whose pass is the up pulse, and the latch that it sets.
 pub struct StageUp {
     pub all_fans_off: bool,
     pub pro1: [f64; 4],
@@ -75,11 +76,11 @@ pub struct StageUp {
     pub or2: [bool; 4],
     pub all_newly_started_proven: bool,
     pub up_gate: bool,
-    pub up_passed: bool,
+    pub up_tim: TimerOutput,
     pub lat2_y: bool,
 }
 
-// The next fan to stop, the down pulse and the latch that it sets.
+// The next fan to stop, the timer whose pass is the down pulse, and the latch that it sets.
 pub struct StageDown {
     pub pro2: [f64; 4],
     pub down_distance: [f64; 4],
@@ -87,7 +88,7 @@ pub struct StageDown {
     pub not5: [bool; 4],
     pub all_stopped_matches: bool,
     pub down_gate: bool,
-    pub down_passed: bool,
+    pub dow_tim: TimerOutput,
     pub lat1_y: bool,
 }
 
@@ -97,6 +98,14 @@ pub struct ReliefSignals {
     pub dampers: DamperEnable,
     pub up: StageUp,
     pub down: StageDown,
+}
+
+// The seconds left until each timer passes: tim shuts the dampers of stage zero, up_tim is the up pulse, and dow_tim the down pulse. A timer whose input is off has its
+// whole time left.
+pub struct ReliefLeft {
+    pub tim: f64,
+    pub up_tim: f64,
+    pub dow_tim: f64,
 }
 
 // The outputs, in the order of `Trace`.

@@ -7,3 +7,4 @@ pub mod DamperEnable
 pub mod StageUp
 pub mod StageDown
 pub mod ReliefSignals
+pub mod ReliefLeft

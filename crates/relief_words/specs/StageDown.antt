@@ -4,6 +4,7 @@ use mathlib.Core.List.{map}
 use Rattle.relief_fan_group.specs.declared.types.StageDown.{StageDown}
 use Rattle.relief_words.specs.declared.stage_down.StageDownWords.{StageDownWords}
 use Rattle.block_words.specs.Flags.{flagWord}
+use Rattle.block_words.specs.TimerOutput.{timerOutputWords, timerOutputZero}
 use Rattle.reals.specs.Constants.{plusZero}
 
 -- `StageDown` as words
@@ -15,7 +16,7 @@ stageDownWords s = record {
   not5 = map flagWord (s .not5);
   «all_stopped_matches» = flagWord (s .«all_stopped_matches»);
   «down_gate» = flagWord (s .«down_gate»);
-  «down_passed» = flagWord (s .«down_passed»);
+  «dow_tim» = timerOutputWords (s .«dow_tim»);
   «lat1_y» = flagWord (s .«lat1_y»);
 }
 
@@ -28,6 +29,6 @@ stageDownZero = record {
   not5 = replicate 4 0;
   «all_stopped_matches» = 0;
   «down_gate» = 0;
-  «down_passed» = 0;
+  «dow_tim» = timerOutputZero;
   «lat1_y» = 0;
 }

@@ -4,6 +4,7 @@ use mathlib.Core.List.{map}
 use Rattle.relief_fan_group.specs.declared.types.StageUp.{StageUp}
 use Rattle.relief_words.specs.declared.stage_up.StageUpWords.{StageUpWords}
 use Rattle.block_words.specs.Flags.{flagWord}
+use Rattle.block_words.specs.TimerOutput.{timerOutputWords, timerOutputZero}
 use Rattle.reals.specs.Constants.{plusZero}
 
 -- `StageUp` as words
@@ -15,7 +16,7 @@ stageUpWords s = record {
   or2 = map flagWord (s .or2);
   «all_newly_started_proven» = flagWord (s .«all_newly_started_proven»);
   «up_gate» = flagWord (s .«up_gate»);
-  «up_passed» = flagWord (s .«up_passed»);
+  «up_tim» = timerOutputWords (s .«up_tim»);
   «lat2_y» = flagWord (s .«lat2_y»);
 }
 
@@ -28,6 +29,6 @@ stageUpZero = record {
   or2 = replicate 4 0;
   «all_newly_started_proven» = 0;
   «up_gate» = 0;
-  «up_passed» = 0;
+  «up_tim» = timerOutputZero;
   «lat2_y» = 0;
 }

@@ -3,6 +3,7 @@ pub mod damper_enable;
 pub mod pressure_control;
 pub mod relief_blocks;
 pub mod relief_commands;
+pub mod relief_left;
 pub mod relief_row;
 pub mod relief_signals;
 pub mod stage_down;

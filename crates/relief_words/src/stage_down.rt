@@ -3,6 +3,7 @@ ghost use mathlib.Core.Path.{_≡_};
 ghost use Rattle.relief_words.specs.StageDown.{stageDownWords, stageDownZero};
 use block_words::flags::flag_word;
 use block_words::flags::flag_words_of_four;
+use block_words::timer_output::TimerOutputWords;
 use relief_fan_group::types::StageDown;
 
 #[repr(C)]
@@ -13,7 +14,7 @@ pub struct StageDownWords {
     pub not5: [u64; 4],
     pub all_stopped_matches: u64,
     pub down_gate: u64,
-    pub down_passed: u64,
+    pub dow_tim: TimerOutputWords,
     pub lat1_y: u64,
 }
 
@@ -25,6 +26,7 @@ impl StageDownWords {
         let down_distance = value.down_distance;
         let xor = value.xor;
         let not5 = value.not5;
+        let dow_tim = value.dow_tim;
         StageDownWords {
             pro2,
             down_distance,
@@ -32,7 +34,7 @@ impl StageDownWords {
             not5: flag_words_of_four(not5),
             all_stopped_matches: flag_word(value.all_stopped_matches),
             down_gate: flag_word(value.down_gate),
-            down_passed: flag_word(value.down_passed),
+            dow_tim: TimerOutputWords::of(dow_tim),
             lat1_y: flag_word(value.lat1_y),
         }
     }
@@ -47,7 +49,7 @@ impl StageDownWords {
             not5: [0; 4],
             all_stopped_matches: 0,
             down_gate: 0,
-            down_passed: 0,
+            dow_tim: TimerOutputWords::zero(),
             lat1_y: 0,
         }
     }

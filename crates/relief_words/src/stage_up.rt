@@ -3,6 +3,7 @@ ghost use mathlib.Core.Path.{_≡_};
 ghost use Rattle.relief_words.specs.StageUp.{stageUpWords, stageUpZero};
 use block_words::flags::flag_word;
 use block_words::flags::flag_words_of_four;
+use block_words::timer_output::TimerOutputWords;
 use relief_fan_group::types::StageUp;
 
 #[repr(C)]
@@ -13,7 +14,7 @@ pub struct StageUpWords {
     pub or2: [u64; 4],
     pub all_newly_started_proven: u64,
     pub up_gate: u64,
-    pub up_passed: u64,
+    pub up_tim: TimerOutputWords,
     pub lat2_y: u64,
 }
 
@@ -24,6 +25,7 @@ impl StageUpWords {
         let pro1 = value.pro1;
         let up_distance = value.up_distance;
         let or2 = value.or2;
+        let up_tim = value.up_tim;
         StageUpWords {
             all_fans_off: flag_word(value.all_fans_off),
             pro1,
@@ -31,7 +33,7 @@ impl StageUpWords {
             or2: flag_words_of_four(or2),
             all_newly_started_proven: flag_word(value.all_newly_started_proven),
             up_gate: flag_word(value.up_gate),
-            up_passed: flag_word(value.up_passed),
+            up_tim: TimerOutputWords::of(up_tim),
             lat2_y: flag_word(value.lat2_y),
         }
     }
@@ -46,7 +48,7 @@ impl StageUpWords {
             or2: [0; 4],
             all_newly_started_proven: 0,
             up_gate: 0,
-            up_passed: 0,
+            up_tim: TimerOutputWords::zero(),
             lat2_y: 0,
         }
     }

@@ -250,23 +250,60 @@ fn kept_hysteresis() {
     io::write_all(STDOUT_FILENO, b"\n");
 }
 
-fn elapsed(s: ElapsedTimerState, t: f64, u: bool) -> ElapsedTimerState {
+// Elapsed seconds: `timer` of cdl_recurrences.rs, and the two timers of the sequences on the same rows. Each is held to the Rust's `timer`.
+fn print_seconds(y: f64) {
     io::write_all(STDOUT_FILENO, b" ");
-    io::print_decimal(STDOUT_FILENO, pattern(s.output(t, u)));
+    io::print_decimal(STDOUT_FILENO, pattern(y));
+}
+
+fn elapsed(s: ElapsedTimerState, t: f64, u: bool) -> ElapsedTimerState {
+    print_seconds(s.output(t, u));
+    s.update(t, u)
+}
+
+fn held_elapsed(s: HeldTimerState, t: f64, u: bool) -> HeldTimerState {
+    print_seconds(s.output(t, u).elapsed);
+    s.update(t, u)
+}
+
+fn present_elapsed(s: PresentTimerState, t: f64, u: bool) -> PresentTimerState {
+    print_seconds(s.output(t, u).elapsed);
     s.update(t, u)
 }
 
 fn elapsed_timer() {
     io::write_all(
         STDOUT_FILENO,
-        b"timer of cdl_recurrences.rs, true at 5 7.5 8, false at 9, true at 9.5 s, patterns:",
+        b"elapsed seconds, true at 5.2 5.6 305.2, false at 306, true at 306.5 s, patterns, of timer:",
     );
     let s = ElapsedTimerState::new();
-    let s = elapsed(s, 5.0, true);
-    let s = elapsed(s, 7.5, true);
-    let s = elapsed(s, 8.0, true);
-    let s = elapsed(s, 9.0, false);
-    elapsed(s, 9.5, true);
+    let s = elapsed(s, 5.2, true);
+    let s = elapsed(s, 5.6, true);
+    let s = elapsed(s, 305.2, true);
+    let s = elapsed(s, 306.0, false);
+    elapsed(s, 306.5, true);
+    io::write_all(STDOUT_FILENO, b"\n");
+}
+
+fn held_timer_elapsed() {
+    io::write_all(STDOUT_FILENO, b"the same, of the freeze timer:");
+    let s = HeldTimerState::new(300.0);
+    let s = held_elapsed(s, 5.2, true);
+    let s = held_elapsed(s, 5.6, true);
+    let s = held_elapsed(s, 305.2, true);
+    let s = held_elapsed(s, 306.0, false);
+    held_elapsed(s, 306.5, true);
+    io::write_all(STDOUT_FILENO, b"\n");
+}
+
+fn present_timer_elapsed() {
+    io::write_all(STDOUT_FILENO, b"the same, of the relief timer:");
+    let s = PresentTimerState::new(300.0);
+    let s = present_elapsed(s, 5.2, true);
+    let s = present_elapsed(s, 5.6, true);
+    let s = present_elapsed(s, 305.2, true);
+    let s = present_elapsed(s, 306.0, false);
+    present_elapsed(s, 306.5, true);
     io::write_all(STDOUT_FILENO, b"\n");
 }
 
@@ -284,4 +321,6 @@ fn main() {
     economizer_hold();
     kept_hysteresis();
     elapsed_timer();
+    held_timer_elapsed();
+    present_timer_elapsed();
 }

@@ -12,24 +12,28 @@ use crate::line::LineGiven;
 use crate::line::line_given;
 use moving_average::lent::Integrator;
 use refusals::Verdict;
+use relief_fan_group::left::relief_left;
 use relief_fan_group::signals::relief_signals;
 use relief_fan_group::types::ReliefBlocks;
 use relief_fan_group::types::ReliefRow;
 use relief_fan_group::verdict::relief_verdict;
 use relief_lines::relief::write_relief_row;
+use relief_words::relief_left::ReliefLeftWords;
 use relief_words::relief_row::ReliefRowWords;
 use relief_words::relief_signals::ReliefSignalsWords;
 use woldgrater::relief::ReliefWords;
 use woldgrater::relief::lend;
 
 // The status of a row, and what the commands of an accepted one are worked from.
+// Beside it the seconds left on its timers.
 #[repr(C)]
 pub struct ReliefShown {
     pub status: u64,
     pub signals: ReliefSignalsWords,
+    pub left: ReliefLeftWords,
 }
 
-// A row's refusal, or the signals that its commands are worked from.
+// A row's refusal, or the signals that its commands are worked from and what is left on its timers.
 fn relief_shown<'a>(
     times: &'a [f64; 512],
     integrals: &'a [f64; 512],
@@ -49,19 +53,22 @@ fn relief_shown<'a>(
         Verdict::Accepted => {
             let average = integrator.output(times, integrals, time, pressure);
             let signals = relief_signals(blocks, row, average);
+            let left = relief_left(blocks, signals);
             ReliefShown {
                 status: 0,
                 signals: ReliefSignalsWords::of(signals),
+                left: ReliefLeftWords::of(left),
             }
         }
         Verdict::Refused(refusal) => ReliefShown {
             status: refusal.number(),
             signals: ReliefSignalsWords::zero(),
+            left: ReliefLeftWords::zero(),
         },
     }
 }
 
-// What the commands of a row would be worked from. The state does not move.
+// What the commands of a row would be worked from, and what is left on each timer. The state does not move.
 #[no_mangle]
 pub extern "C" fn woldgrater_relief_signals<'a>(
     times: &'a [f64; 512],

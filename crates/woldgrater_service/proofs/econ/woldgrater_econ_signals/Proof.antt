@@ -1,4 +1,3 @@
--- Written by tools/words from what freeze protection has.
 -- `woldgrater_econ_signals` meets its contract, by the row's verdict. Assumes nothing.
 use borrow.Author.Needs.{needs}
 use Rattle.woldgrater_service.specs.Shown.{economizerShown}

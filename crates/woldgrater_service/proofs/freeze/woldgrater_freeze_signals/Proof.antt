@@ -7,30 +7,37 @@ use Rattle.woldgrater_service.proofs.freeze.woldgrater_freeze_signals.T
 returns : tie.Need-returns
 unfolding freezeShown
 returns c =
+    let k = c .before .before in
     rw (
-      ← c .before .before .before .before .before .before .value .ensures,
-      ← c .before .before .before .before .before .value2 .ensures,
-      ← c .before .before .before .before .freeze-verdict .ensures,
-      c .before .before .enum-told .given .1,
-      ← c .before .freeze-signals .ensures,
-      ← c .of .ensures,
+      ← k .before .before .before .before .before .before .value .ensures,
+      ← k .before .before .before .before .before .value2 .ensures,
+      ← k .before .before .before .before .freeze-verdict .ensures,
+      k .before .before .enum-told .given .1,
+      ← k .before .freeze-signals .ensures,
+      ← k .freeze-left .ensures,
+      ← c .before .of .ensures,
+      ← c .of2 .ensures,
     )
 
 returns-2 : tie.Need-returns-2
 unfolding freezeShown
 returns-2 c =
+    let k = c .before in
     rw (
-      ← c .before .before .before .before .before .before .before .value .ensures,
-      ← c .before .before .before .before .before .before .value2 .ensures,
-      ← c .before .before .before .before .before .freeze-verdict .ensures,
-      c .before .before .before .verdict .given .1,
-      ← c .before .number .ensures,
-      ← c .zero .ensures,
+      ← k .before .before .before .before .before .before .before .value .ensures,
+      ← k .before .before .before .before .before .before .value2 .ensures,
+      ← k .before .before .before .before .before .freeze-verdict .ensures,
+      k .before .before .before .verdict .given .1,
+      ← k .before .number .ensures,
+      ← k .zero .ensures,
+      ← c .zero2 .ensures,
     )
 
 pub woldgrater-freeze-signals-spec : {M : Type 1} → statement M
 woldgrater-freeze-signals-spec =
     tie.close
     (tie.spec
-    (λ c κs. search needs) (λ c κs. search needs) (λ c κs. search needs) (λ c. search needs) (λ c κs. search needs) (λ c κs. search needs) (λ c. search needs) (λ c κs. search needs) (λ c κs. search needs)
+    (λ c κs. search needs) (λ c κs. search needs) (λ c κs. search needs) (λ c. search needs)
+    (λ c κs. search needs) (λ c κs. search needs) (λ c κs. search needs) (λ c κs. search needs)
+    (λ c. search needs) (λ c κs. search needs) (λ c κs. search needs) (λ c κs. search needs)
     returns returns-2)

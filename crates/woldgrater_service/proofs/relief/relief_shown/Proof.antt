@@ -8,28 +8,33 @@ use Rattle.woldgrater_service.proofs.relief.relief_shown.Tie as tie
 returns : tie.Need-returns
 unfolding reliefShown signalsAt reliefShownBy
 returns c =
-    let v = c .before .before .before .before .before in
+    let k = c .before .before in
+    let v = k .before .before .before .before .before in
     let s = v .before .before in
     rw (
       ← v .before .is-full .ensures (s .args .integrals .now) (s .pre .1),
       ← v .relief-verdict .ensures,
-      c .before .before .before .enum-told .given .1,
-      ← c .before .before .output .ensures,
-      ← c .before .relief-signals .ensures,
-      ← c .of .ensures,
+      k .before .before .before .enum-told .given .1,
+      ← k .before .before .output .ensures,
+      ← k .before .relief-signals .ensures,
+      ← k .relief-left .ensures,
+      ← c .before .of .ensures,
+      ← c .of2 .ensures,
     )
 
 returns-2 : tie.Need-returns-2
 unfolding reliefShown signalsAt reliefShownBy
 returns-2 c =
-    let v = c .before .before .before .before .before in
+    let k = c .before in
+    let v = k .before .before .before .before .before in
     let s = v .before .before in
     rw (
       ← v .before .is-full .ensures (s .args .integrals .now) (s .pre .1),
       ← v .relief-verdict .ensures,
-      c .before .before .before .verdict .given .1,
-      ← c .before .number .ensures,
-      ← c .zero .ensures,
+      k .before .before .before .verdict .given .1,
+      ← k .before .number .ensures,
+      ← k .zero .ensures,
+      ← c .zero2 .ensures,
     )
 
 pub relief-shown-spec : {M : Type 1} → statement M
@@ -37,6 +42,6 @@ relief-shown-spec =
     tie.close
     (tie.spec
     (λ c κs. search needs) (λ c κs. search needs) (λ c. search needs) (λ c κs. search needs)
-    (λ c κs. search needs) (λ c κs. search needs) (λ c. search needs) (λ c κs. search needs)
-    (λ c κs. search needs)
+    (λ c κs. search needs) (λ c κs. search needs) (λ c κs. search needs) (λ c κs. search needs)
+    (λ c. search needs) (λ c κs. search needs) (λ c κs. search needs) (λ c κs. search needs)
     returns returns-2)

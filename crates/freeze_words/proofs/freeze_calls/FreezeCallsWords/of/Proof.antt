@@ -11,16 +11,16 @@ returns c =
     let c2 = c1 .before .before .before .before .before in
     λ i. record {
       «les_thr_y» = c2 .flag-word .ensures i;
-      «tim_passed» = c1 .before .before .before .before .flag-word2 .ensures i;
-      «gre_thr_y» = c1 .before .before .before .flag-word3 .ensures i;
-      «tim1_passed» = c1 .before .before .flag-word4 .ensures i;
-      «end_sta_one_y» = c1 .before .flag-word5 .ensures i;
-      «les_thr1_y» = c1 .flag-word6 .ensures i;
-      «tim2_passed» = c .before .before .before .before .flag-word7 .ensures i;
-      «hol_sta2_y» = c .before .before .before .flag-word8 .ensures i;
-      «tim3_passed» = c .before .before .flag-word9 .ensures i;
-      «les_thr2_y» = c .before .flag-word10 .ensures i;
-      «tim4_passed» = c .flag-word11 .ensures i;
+      tim = c1 .before .before .before .before .of .ensures i;
+      «gre_thr_y» = c1 .before .before .before .flag-word2 .ensures i;
+      tim1 = c1 .before .before .of2 .ensures i;
+      «end_sta_one_y» = c1 .before .flag-word3 .ensures i;
+      «les_thr1_y» = c1 .flag-word4 .ensures i;
+      tim2 = c .before .before .before .before .of3 .ensures i;
+      «hol_sta2_y» = c .before .before .before .flag-word5 .ensures i;
+      tim3 = c .before .before .of4 .ensures i;
+      «les_thr2_y» = c .before .flag-word6 .ensures i;
+      tim4 = c .of5 .ensures i;
     }
 
 pub of-spec : {M : Type 1} → statement M

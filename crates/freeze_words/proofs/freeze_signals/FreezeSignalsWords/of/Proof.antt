@@ -11,11 +11,11 @@ returns c =
       c .before .before .before .before .before .before .before .of .ensures,
       c .before .before .before .before .before .before .flag-word .ensures,
       c .before .before .before .before .before .flag-word2 .ensures,
-      c .before .before .before .before .flag-word3 .ensures,
-      c .before .before .before .flag-word4 .ensures,
-      c .before .before .flag-word5 .ensures,
-      c .before .flag-word6 .ensures,
-      c .flag-word7 .ensures,
+      c .before .before .before .before .of2 .ensures,
+      c .before .before .before .flag-word3 .ensures,
+      c .before .before .flag-word4 .ensures,
+      c .before .flag-word5 .ensures,
+      c .flag-word6 .ensures,
     )
 
 pub of-spec : {M : Type 1} → statement M

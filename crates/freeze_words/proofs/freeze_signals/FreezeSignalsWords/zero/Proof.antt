@@ -6,7 +6,7 @@ use Rattle.freeze_words.proofs.freeze_signals.FreezeSignalsWords.zero.T
 
 returns : tie.Need-returns
 unfolding freezeSignalsZero
-returns c = rw (c .zero .ensures)
+returns c = rw (c .before .zero .ensures, c .zero2 .ensures)
 
 pub zero-spec : {M : Type 1} → statement M
-zero-spec = tie.close (tie.spec (λ c κs. search needs) returns)
+zero-spec = tie.close (tie.spec (λ c κs. search needs) (λ c κs. search needs) returns)

@@ -6,13 +6,7 @@ use Rattle.relief_words.proofs.damper_enable.DamperEnableWords.of.Tie a
 
 returns : tie.Need-returns
 unfolding damperEnableWords
-returns c =
-    rw (
-      c .before .before .before .flag-word .ensures,
-      c .before .before .flag-word2 .ensures,
-      c .before .flag-word3 .ensures,
-      c .flag-words-of-four .ensures,
-    )
+returns c = rw (c .before .before .before .flag-word .ensures, c .before .before .flag-word2 .ensures, c .before .of .ensures, c .flag-words-of-four .ensures)
 
 pub of-spec : {M : Type 1} → statement M
 of-spec =

@@ -12,8 +12,8 @@ returns c =
       c .before .before .before .before .flag-words-of-four2 .ensures,
       c .before .before .before .flag-word .ensures,
       c .before .before .flag-word2 .ensures,
-      c .before .flag-word3 .ensures,
-      c .flag-word4 .ensures,
+      c .before .of .ensures,
+      c .flag-word3 .ensures,
     )
 
 pub of-spec : {M : Type 1} → statement M

@@ -12,8 +12,8 @@ returns c =
       c .before .before .before .before .flag-words-of-four .ensures,
       c .before .before .before .flag-word2 .ensures,
       c .before .before .flag-word3 .ensures,
-      c .before .flag-word4 .ensures,
-      c .flag-word5 .ensures,
+      c .before .of .ensures,
+      c .flag-word4 .ensures,
     )
 
 pub of-spec : {M : Type 1} → statement M
