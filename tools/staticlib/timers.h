@@ -4,7 +4,7 @@
 /* A timer: the words of its input, of its answer and of what is left on it, and the seconds after which it passes. */
 #define TIMER(kind, input, answer, named, seconds)                                                                           \
     { #kind " " #named, AT(kind, signals.input), AT(kind, signals.answer.passed), AT(kind, signals.answer.elapsed),           \
-      AT(kind, left.named), seconds }
+      AT(kind, left.named), seconds, 0, 0 }
 #define AT(kind, field) (offsetof(struct woldgrater_##kind##_shown, field) / sizeof(uint64_t) - 1)
 
 static struct timer {

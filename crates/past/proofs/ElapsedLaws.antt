@@ -6,24 +6,25 @@ use mathlib.Core.Bool.{Bool, true, false, not, _&&_, _||_, cond}
 use mathlib.Core.List.{List, [], _∷_}
 use lib.Dec.{T, leb, leb→le, le→leb, nleb→lt, not-T}
 use lib.ListN.{drop}
-use lib.Ieee.{Float, nan, inf, fin, binary64, sub, le, lt, round, ofBits, isNan}
+use lib.Ieee.{Float, nan, inf, fin, binary64, sub, le, round, ofBits}
 use lib.Ieee.Fits.{and-l, and-r}
 use lib.Ieee.Scale.{finite}
 use Rattle.reals.specs.Constants.{plusZero, whole}
 use Rattle.reals.specs.Order.{greater}
 use Rattle.reals.specs.Sign.{isTime, isSignNegative}
 use Rattle.reals.specs.Switch.{switch}
-use Rattle.reals.proofs.Truth.{is-true, is-false, holds, fails, same, table1}
+use Rattle.reals.proofs.Truth.{is-true, holds, fails, same, table1}
 use Rattle.reals.proofs.FloatOrder.{le-trans, le-refl, not-lt→le}
 use Rattle.reals.proofs.Round.{plain, round-plain, plain-not-below}
 use Rattle.reals.proofs.Times.{self-gap, minus-mono, greater-plain}
 use Rattle.reals.proofs.WholeNumbers.{whole-le, whole-sub}
 use Rattle.logical.specs.Timer.{timerOutputLeft}
-use Rattle.past.specs.Past.{every, rises, runStart}
+use Rattle.past.specs.Past.{every, runStart}
 use Rattle.past.specs.Runs.{timeOf, sinceTime, passed, running, elapsed, heldTimer, presentTimer, WholeSeconds}
-use Rattle.past.specs.Stepped.{notBefore, inOrder}
+use Rattle.past.specs.Stepped.{inOrder}
 use Rattle.past.proofs.RunLaws.{lastRise, run-start, start-time, passed-step, passed-none, running-step, elapsed-step}
-use Rattle.past.proofs.Stepped.{time-here, finite-here}
+use Rattle.past.proofs.Stepped.{order-before, order-here, time-here, finite-here}
+use Rattle.past.proofs.Judged.{time-number}
 
 -- ---- times
 time-plain : (t : Float) → T (isTime t) → T (plain t)
@@ -33,12 +34,6 @@ time-plain (inf s) h = absurd h
 time-plain (fin true m e) h = absurd h
 time-plain (fin false m e) h = tt
 
-time-number : (t : Float) → T (isTime t) → isNan t ≡ false
-unfolding isNan
-time-number nan h = absurd h
-time-number (inf s) h = refl
-time-number (fin s m e) h = refl
-
 zero-time : T (isTime plusZero)
 unfolding isSignNegative ofBits
 zero-time = tt
@@ -47,24 +42,21 @@ zero-first : (t : Float) → T (isTime t) → T (le plusZero t)
 zero-first t h = not-lt→le t plusZero (time-number t h) (time-number plusZero zero-time) (plain-not-below t (time-plain t h))
 
 module _ {A : Type 0} (time : A → Float) where
-  before : (x : A) (h : List A) → T (inOrder time (x ∷ h)) → T (inOrder time h)
-  before x h o = and-r (isTime (time x) && notBefore time (time x) h) (inOrder time h) o
-
   order-kept : (k : ℕ) (h : List A) → T (inOrder time h) → T (inOrder time (drop k h))
   order-kept zero h o = o
   order-kept (suc k) [] o = tt
-  order-kept (suc k) (x ∷ h) o = order-kept k h (before x h o)
+  order-kept (suc k) (x ∷ h) o = order-kept k h (order-before time x h o)
 
   next-later : (x : A) (h : List A) → T (inOrder time (x ∷ h)) → T (le (timeOf time h) (time x))
   next-later x [] o = zero-first (time x) (time-here time x [] o)
-  next-later x (y ∷ h) o = and-r (isTime (time x)) (le (time y) (time x)) (and-l (isTime (time x) && le (time y) (time x)) (inOrder time (y ∷ h)) o)
+  next-later x (y ∷ h) o = order-here time x (y ∷ h) o
 
   -- the time of an earlier row, and the 0 that stands before row 0, is not after the row here
   earlier : (k : ℕ) (h : List A) → T (inOrder time h) → T (le (timeOf time (drop k h)) (timeOf time h))
   earlier zero [] o = le-refl plusZero (time-number plusZero zero-time)
   earlier zero (x ∷ h) o = le-refl (time x) (time-number (time x) (time-here time x h o))
   earlier (suc k) [] o = le-refl plusZero (time-number plusZero zero-time)
-  earlier (suc k) (x ∷ h) o = le-trans (timeOf time (drop k h)) (timeOf time h) (time x) (earlier k h (before x h o)) (next-later x h o)
+  earlier (suc k) (x ∷ h) o = le-trans (timeOf time (drop k h)) (timeOf time h) (time x) (earlier k h (order-before time x h o)) (next-later x h o)
 
 every-first : (k : ℕ) (f : ℕ → Bool) → T (every (suc k) f) → T (f 0)
 unfolding every
@@ -106,14 +98,18 @@ module _ (m s x y : ℕ) (M : m ≤ 2 ^ 53) (Y : y ≤ 2 ^ 53) (S : s ≤ x) (X 
       → le n (sub binary64 v r) ≡ le (timerOutputLeft (record { passed = le n (sub binary64 t r); elapsed = sub binary64 t r }) n) (sub binary64 v t)
   seconds-left n r t v N R H K = rw (N, R, H, K) whole-left
 
-module _ {A : Type 0} (time : A → Float) (n : Float) (u : List A → Bool) (e : u [] ≡ false) where
-  running-is : (h : List A) → running time n u h ≡ (u h && le n (sub binary64 (timeOf time h) (lastRise time u e h)))
+module _ {A : Type 0} (time : A → Float) (u : List A → Bool) (e : u [] ≡ false) where
+  running-is : (n : Float) (h : List A) → running time n u h ≡ (u h && le n (sub binary64 (timeOf time h) (lastRise time u e h)))
   unfolding running
-  running-is h = run-start time u e (λ t. le n (sub binary64 (timeOf time h) t)) h
+  running-is n h = run-start time u e (λ t. le n (sub binary64 (timeOf time h) t)) h
 
-  rise-time : (h : List A) → T (inOrder time h) → T (isTime (lastRise time u e h))
+  -- the time of the last rise, and the 0 that stands where u never rose, is a time, and not after the row here
+  pub rise-first : (h : List A) → T (inOrder time h) → T (le (lastRise time u e h) (timeOf time h))
+  rise-first h o = rw (← start-time time u e h) (earlier time (runStart u h) h o)
+
+  pub rise-time : (h : List A) → T (inOrder time h) → T (isTime (lastRise time u e h))
   rise-time [] o = zero-time
-  rise-time (x ∷ h) o = go (u (x ∷ h) && not (u h)) (rise-time h (before time x h o))
+  rise-time (x ∷ h) o = go (u (x ∷ h) && not (u h)) (rise-time h (order-before time x h o))
     where
       go : (r : Bool) → T (isTime (lastRise time u e h)) → T (isTime (cond r (time x) (lastRise time u e h)))
       go true i = time-here time x h o
@@ -128,6 +124,16 @@ module _ {A : Type 0} (time : A → Float) (n : Float) (u : List A → Bool) (e 
       let later = and-r (u (x ∷ h)) (every (suc k) (λ j. u (drop {A = A} j h))) t in
       rw (is-true (u (x ∷ h)) (and-l (u (x ∷ h)) (every (suc k) (λ j. u (drop {A = A} j h))) t), is-true (u h) (and-l (u h) (every k (λ j. u (drop {A = A} (suc j) h))) later)) (start-kept k h later)
 
+  -- a time that has been reached stays reached, since times do not fall
+  pub still-reached : (n : Float) (x : A) (h : List A) → T (inOrder time (x ∷ h)) → T (u h) → T (le n (sub binary64 (timeOf time h) (lastRise time u e h)))
+      → T (le n (sub binary64 (time x) (lastRise time u e h)))
+  still-reached n x [] o a l = absurd (fails (u []) e a)
+  still-reached n x (y ∷ h) o a l =
+      let first = lastRise time u e (y ∷ h) in
+      let earlier-rows = order-before time x (y ∷ h) o in
+      le-trans n (sub binary64 (time y) first) (sub binary64 (time x) first) l
+      (minus-mono (time y) (time x) first (time-here time y h earlier-rows) (time-here time x (y ∷ h) o) (rise-time (y ∷ h) earlier-rows) (order-here time x (y ∷ h) o))
+
 -- u is false before row 0, and the threshold n is above 0
 module _ {A : Type 0} (time : A → Float) (n : Float) (u : List A → Bool) (e : u [] ≡ false) (positive : le n plusZero ≡ false) where
   -- ---- a mark is on exactly where the elapsed time is at least the threshold
@@ -139,19 +145,12 @@ module _ {A : Type 0} (time : A → Float) (n : Float) (u : List A → Bool) (e 
       go true false r = rw (self-gap (time x) f) refl
       go false b r = sym positive
 
-  -- a time that has been reached stays reached, since times do not fall
-  still-reached : (x : A) (h : List A) → T (inOrder time (x ∷ h)) → T (u h) → T (le n (sub binary64 (timeOf time h) (lastRise time u e h))) → T (le n (sub binary64 (time x) (lastRise time u e h)))
-  still-reached x [] o a l = absurd (fails (u []) e a)
-  still-reached x (y ∷ h) o a l =
-      le-trans n (sub binary64 (time y) (lastRise time u e (y ∷ h))) (sub binary64 (time x) (lastRise time u e (y ∷ h))) l
-      (minus-mono (time y) (time x) (lastRise time u e (y ∷ h)) (time-here time y h (before time x (y ∷ h) o)) (time-here time x (y ∷ h) o) (rise-time time n u e (y ∷ h) (before time x (y ∷ h) o)) (next-later time x (y ∷ h) o))
-
   -- so over accepted rows the two timers have one mark
   pub passed-running : (h : List A) → T (inOrder time h) → passed time n u h ≡ running time n u h
-  passed-running [] o = rw (passed-none time u e n, running-is time n u e [], e) refl
+  passed-running [] o = rw (passed-none time u e n, running-is time u e n [], e) refl
   passed-running (x ∷ h) o =
-      rw (passed-step time u e n x h, passed-running h (before time x h o), running-is time n u e h, running-step time u e n x h)
-      (go (u (x ∷ h)) (u h) (le n (sub binary64 (timeOf time h) (lastRise time u e h))) (still-reached x h o))
+      rw (passed-step time u e n x h, passed-running h (order-before time x h o), running-is time u e n h, running-step time u e n x h)
+      (go (u (x ∷ h)) (u h) (le n (sub binary64 (timeOf time h) (lastRise time u e h))) (still-reached time u e n x h o))
     where
       go : (a b d : Bool) → (T b → T d → T (le n (sub binary64 (time x) (lastRise time u e h))))
           → (a && (b && le n (sub binary64 (time x) (lastRise time u e h)) || b && d)) ≡ (a && le n (sub binary64 (time x) (cond (a && not b) (time x) (lastRise time u e h))))
@@ -175,7 +174,7 @@ module _ {A : Type 0} (time : A → Float) (n : Float) (u : List A → Bool) (e 
   present-is : (h : List A) → T (inOrder time h) → T (u h)
       → presentTimer time n u h ≡ record { passed = le n (sub binary64 (timeOf time h) (lastRise time u e h)); elapsed = sub binary64 (timeOf time h) (lastRise time u e h) }
   present-is [] o t = absurd (fails (u []) e t)
-  present-is (x ∷ h) o t = rw (running-is time n u e (x ∷ h), elapsed-on x h (finite-here time x h o) t, is-true (u (x ∷ h)) t) refl
+  present-is (x ∷ h) o t = rw (running-is time u e n (x ∷ h), elapsed-on x h (finite-here time x h o) t, is-true (u (x ∷ h)) t) refl
 
   module _ (m : ℕ) (M : m ≤ 2 ^ 53) (N : n ≡ whole m) (k : ℕ) (h : List A) (on : T (every (suc k) (λ j. u (drop j h)))) (o : T (inOrder time h)) (w : WholeSeconds time h) where
     pub present-left : running time n u h ≡ le (timerOutputLeft (presentTimer time n u (drop k h)) n) (sinceTime time k h)
@@ -183,12 +182,12 @@ module _ {A : Type 0} (time : A → Float) (n : Float) (u : List A → Bool) (e 
         let first = w (runStart u h) in
         let then = w k in
         let here = w 0 in
-        let start : lastRise time u e h ≡ lastRise time u e (drop k h) = start-kept time n u e k h on in
+        let start : lastRise time u e h ≡ lastRise time u e (drop k h) = start-kept time u e k h on in
         let on-here : T (u h) = every-first k (λ j. u (drop j h)) on in
         let on-then : T (u (drop k h)) = every-last k (λ j. u (drop j h)) on in
         let began : lastRise time u e h ≡ whole (first .0) = sym (start-time time u e h) ∙ first .1 .1 in
-        let ordered : T (le (lastRise time u e h) (timeOf time (drop k h))) = rw (start, ← start-time time u e (drop k h)) (earlier time (runStart u (drop k h)) (drop k h) (order-kept time k h o)) in
-        rw (running-is time n u e h, is-true (u h) on-here, present-is (drop k h) (order-kept time k h o) on-then, ← start)
+        let ordered : T (le (lastRise time u e h) (timeOf time (drop k h))) = rw start (rise-first time u e (drop k h) (order-kept time k h o)) in
+        rw (running-is time u e n h, is-true (u h) on-here, present-is (drop k h) (order-kept time k h o) on-then, ← start)
         (seconds-left m (first .0) (then .0) (here .0) M (here .1 .0) (whole-order (first .0) (then .0) _ _ (first .1 .0) (then .1 .0) began (then .1 .1) ordered)
         (whole-order (then .0) (here .0) _ _ (then .1 .0) (here .1 .0) (then .1 .1) (here .1 .1) (earlier time k h o)) n (lastRise time u e h) (timeOf time (drop k h)) (timeOf time h) N began (then .1 .1) (here .1 .1))
 

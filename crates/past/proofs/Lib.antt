@@ -2,7 +2,6 @@
 -- its start, gives what document 01 reads off that list. Every reading is for any type of row and any signal read off a past.
 pub mod Laws
 pub mod RunLaws
-pub mod ElapsedLaws
 pub mod TurnLaws
 pub mod Stepped
 pub mod LevelReading
@@ -12,4 +11,5 @@ pub mod HoldReading
 pub mod DelayReading
 pub mod Whole
 pub mod Judged
+pub mod ElapsedLaws
 pub mod Sequence

@@ -3,7 +3,7 @@ use mathlib.Core.Path.{_≡_}
 use mathlib.Core.Bool.{not, _&&_}
 use mathlib.Core.List.{List, [], _∷_}
 use lib.Dec.{T}
-use lib.Ieee.{Float, binary64, sub, le}
+use lib.Ieee.{Float, binary64, sub}
 use lib.Ieee.Scale.{finite}
 use lib.Ieee.Fits.{and-l, and-r}
 use Rattle.reals.specs.Constants.{plusZero}
@@ -24,6 +24,13 @@ module _ {A S : Type 0} (new : S) (update : S → List A → S) (of : List A →
   stepped-in-order time e f (x ∷ h) o = rw (stepped-in-order time e f h (and-r (isTime (time x) && notBefore time (time x) h) (inOrder time h) o)) (f x h o)
 
 module _ {A : Type 0} (time : A → Float) where
+  -- the rows before are in order too, and none is later than the row here
+  pub order-before : (x : A) (h : List A) → T (inOrder time (x ∷ h)) → T (inOrder time h)
+  order-before x h o = and-r (isTime (time x) && notBefore time (time x) h) (inOrder time h) o
+
+  pub order-here : (x : A) (h : List A) → T (inOrder time (x ∷ h)) → T (notBefore time (time x) h)
+  order-here x h o = and-r (isTime (time x)) (notBefore time (time x) h) (and-l (isTime (time x) && notBefore time (time x) h) (inOrder time h) o)
+
   pub time-here : (x : A) (h : List A) → T (inOrder time (x ∷ h)) → T (isTime (time x))
   time-here x h o = and-l (isTime (time x)) (notBefore time (time x) h) (and-l (isTime (time x) && notBefore time (time x) h) (inOrder time h) o)
 
@@ -33,5 +40,4 @@ module _ {A : Type 0} (time : A → Float) where
   -- the gap to the row before is not cut at 0
   pub gap-here : (x z : A) (h : List A) → T (inOrder time (x ∷ (z ∷ h))) → greater (sub binary64 (time x) (time z)) plusZero ≡ sub binary64 (time x) (time z)
   gap-here x z h o =
-      gap-kept (time x) (time z) (time-here x (z ∷ h) o) (time-here z h (and-r (isTime (time x) && le (time z) (time x)) (inOrder time (z ∷ h)) o))
-      (and-r (isTime (time x)) (le (time z) (time x)) (and-l (isTime (time x) && le (time z) (time x)) (inOrder time (z ∷ h)) o))
+      gap-kept (time x) (time z) (time-here x (z ∷ h) o) (time-here z h (order-before x (z ∷ h) o)) (order-here x (z ∷ h) o)

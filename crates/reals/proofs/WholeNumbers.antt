@@ -3,8 +3,8 @@ use Prim.Native.Nat.{ℕ, _-_, _*_, _^_, _≤_, _<_}
 use native.Mathlib.Nat.{mul-comm, mul-assoc, mul-one, mul-sub, mul-pos, mul-lt-mul-of-pos-right, lt-of-mul-lt-mul-right}
 use native.Mathlib.Omega.{arith}
 use mathlib.Core.Path.{_≡_, refl, sym, ap, ap₂, _∙_}
-use mathlib.Core.Bool.{Bool, true, false, not}
-use lib.Dec.{T, ltb, leb, ltb→lt, lt→ltb, leb→le, le→leb, nltb→le, not-T}
+use mathlib.Core.Bool.{false, not}
+use lib.Dec.{ltb, leb, ltb→lt, lt→ltb, leb→le, le→leb, nltb→le, not-T}
 use lib.Ieee.{Float, nan, inf, fin, binary64, up, down, lt, le, sub, sum, isNan}
 use lib.Ieee.Fits.{down-pos}
 use lib.Ieee.Exact.{HasValue}

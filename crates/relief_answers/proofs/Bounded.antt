@@ -17,13 +17,13 @@ use Rattle.reals.proofs.FloatOrder.{to-most, le-nan}
 use Rattle.reals.proofs.Round.{plain, round-plain, neg-round, zero-is}
 use Rattle.reals.proofs.Times.{gap-finite, self-gap}
 use Rattle.past.specs.Stepped.{inOrder}
-use Rattle.past.proofs.Stepped.{time-here, finite-here}
+use Rattle.past.proofs.Stepped.{order-here, time-here, finite-here}
 use Rattle.relief_fan_group.specs.declared.types.ReliefRow.{ReliefRow}
 use Rattle.relief_fan_group.specs.Reading.{Past, timeOfRow}
 use Rattle.relief_fan_group.proofs.Blocks.{before}
 use Rattle.relief_answers.specs.Latches.{taken}
 use Rattle.relief_answers.specs.Sum.{pressureSum, pressureBound, timeBound, modest, allModest}
-use Rattle.relief_answers.proofs.Runs.{gap-is, not-below-itself, order-here}
+use Rattle.relief_answers.proofs.Runs.{gap-is, not-below-itself}
 use Rattle.relief_answers.proofs.Latches.{taken-in-order}
 use Rattle.relief_answers.proofs.Magnitude.{AtMostTwice, AtMost, round-double, under, scaled, turned, plus-bounded}
 

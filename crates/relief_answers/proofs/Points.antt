@@ -12,7 +12,7 @@ use Rattle.past.specs.Runs.{timeOf}
 use Rattle.past.specs.Stepped.{inOrder}
 use Rattle.past.specs.Acceptance.{lastTime}
 use Rattle.past.specs.Whole.{stateAfter}
-use Rattle.past.proofs.Stepped.{time-here}
+use Rattle.past.proofs.Stepped.{order-here, time-here}
 use Rattle.moving_average.specs.declared.state.MovingAverageState.{MovingAverageState}
 use Rattle.moving_average.specs.Window.{Point, point, dropOld, endsAt, store}
 use Rattle.moving_average.specs.State.{held, cutoff, muNow, movingAverageIsFull, movingAverageStored, movingAverageUpdate, movingAverageNew}
@@ -28,7 +28,7 @@ use Rattle.relief_fan_group.proofs.Blocks.{before}
 use Rattle.relief_fan_group.proofs.Demand3.{good, accepted-good, state-after}
 use Rattle.relief_answers.specs.Latches.{taken}
 use Rattle.relief_answers.specs.Sum.{gapAfter, pressureSum}
-use Rattle.relief_answers.proofs.Runs.{not-below-itself, order-here}
+use Rattle.relief_answers.proofs.Runs.{not-below-itself}
 
 -- ---- a test that all points of a window pass
 abbrev pub all : (Point → Bool) → List Point → Bool

@@ -8,19 +8,19 @@ use mathlib.Core.List.{List, [], _∷_}
 use lib.IntN.{ℤ}
 use lib.Dec.{T, ltb}
 use lib.Ieee.{Float, nan, inf, fin, binary64, up, down, le, lt, sub, sum, round}
-use lib.Ieee.Fits.{down-pos, and-l, and-r}
+use lib.Ieee.Fits.{down-pos}
 use lib.Ieee.Order.{round-mono}
 use Rattle.reals.specs.Sign.{isSignNegative, isTime}
 use Rattle.reals.proofs.Truth.{is-true, holds}
 use Rattle.reals.proofs.FloatOrder.{to-most, le→not-lt, le-trans, le-refl}
-use Rattle.reals.proofs.Times.{minus-mono}
 use Rattle.past.specs.Past.{rises}
 use Rattle.past.specs.Runs.{sinceTime, running}
-use Rattle.past.specs.Stepped.{notBefore, inOrder}
+use Rattle.past.specs.Stepped.{inOrder}
 use Rattle.past.proofs.Laws.{sinceWith-none}
 use Rattle.past.proofs.RunLaws.{lastRise, running-step}
-use Rattle.past.proofs.Stepped.{time-here}
+use Rattle.past.proofs.Stepped.{order-before, time-here}
 use Rattle.past.proofs.Judged.{time-number}
+use Rattle.past.proofs.ElapsedLaws.{rise-first, rise-time, still-reached}
 use Rattle.relief_answers.proofs.Flags.{no, both-are}
 
 -- ---- of two earlier times the later one is the less long ago
@@ -62,13 +62,6 @@ not-below-itself t a = le-refl t (time-number t a)
 
 -- ---- runs of rows
 module _ {A : Type 0} (time : A → Float) where
-  -- the rows before are in order too, and none is later than the row here
-  pub order-before : (x : A) (h : List A) → T (inOrder time (x ∷ h)) → T (inOrder time h)
-  order-before x h o = and-r (isTime (time x) && notBefore time (time x) h) (inOrder time h) o
-
-  pub order-here : (x : A) (h : List A) → T (inOrder time (x ∷ h)) → T (notBefore time (time x) h)
-  order-here x h o = and-r (isTime (time x)) (notBefore time (time x) h) (and-l (isTime (time x) && notBefore time (time x) h) (inOrder time h) o)
-
   module _ (u : List A → Bool) (e : u [] ≡ false) where
     -- what holds of the start of the run before, or of this row where the run begins here, holds of the start of the run
     at-rise : (P : Float → Type 0) (x : A) (h : List A) → u (x ∷ h) ≡ true → (u h ≡ true → P (lastRise time u e h))
@@ -79,14 +72,6 @@ module _ {A : Type 0} (time : A → Float) where
             → P (cond (true && not b) (time x) (lastRise time u e h))
         go true f g = f refl
         go false f g = g refl
-
-    rise-before : (x : A) (h : List A) → T (inOrder time (x ∷ h)) → u (x ∷ h) ≡ true
-        → T (isTime (lastRise time u e (x ∷ h))) × T (le (lastRise time u e (x ∷ h)) (time x))
-    rise-before x [] o p = at-rise (λ r. T (isTime r) × T (le r (time x))) x [] p (λ q. no q e) (λ q. (time-here time x [] o, not-below-itself (time x) (time-here time x [] o)))
-    rise-before x (y ∷ h) o p =
-        at-rise (λ r. T (isTime r) × T (le r (time x))) x (y ∷ h) p
-        (λ q. let i = rise-before y h (order-before x (y ∷ h) o) q in (i .0, le-trans (lastRise time u e (y ∷ h)) (time y) (time x) (i .1) (order-here x (y ∷ h) o)))
-        (λ q. (time-here time x (y ∷ h) o, not-below-itself (time x) (time-here time x (y ∷ h) o)))
 
     pub run-none : (n : Float) → running time n u [] ≡ false
     unfolding running
@@ -103,12 +88,10 @@ module _ {A : Type 0} (time : A → Float) where
     run-goes-on n x [] o r p = no r (run-none n)
     run-goes-on n x (y ∷ h) o r p =
         let b = both-are (u (y ∷ h)) (le n (sub binary64 (time y) (lastRise time u e (y ∷ h)))) (sym (running-step time u e n y h) ∙ r) in
-        let i = rise-before y h (order-before x (y ∷ h) o) (b .0) in
         running-step time u e n x (y ∷ h)
         ∙ ap₂ (λ (a c : Bool). a && c) p (is-true (le n (sub binary64 (time x) (lastRise time u e (x ∷ (y ∷ h)))))
         (at-rise (λ r. T (le n (sub binary64 (time x) r))) x (y ∷ h) p
-        (λ q. le-trans n (sub binary64 (time y) (lastRise time u e (y ∷ h))) (sub binary64 (time x) (lastRise time u e (y ∷ h))) (holds _ (b .1))
-        (minus-mono (time y) (time x) (lastRise time u e (y ∷ h)) (time-here time y h (order-before x (y ∷ h) o)) (time-here time x (y ∷ h) o) (i .0) (order-here x (y ∷ h) o)))
+        (λ q. still-reached time u e n x (y ∷ h) o (holds _ (b .0)) (holds _ (b .1)))
         (λ q. no (b .0) q)))
 
   -- a run of v, which holds wherever u does, has lasted where that of u has
@@ -117,17 +100,16 @@ module _ {A : Type 0} (time : A → Float) where
     rise-order [] o p = no p e
     rise-order (x ∷ h) o p =
         at-rise u e (λ r. T (le (lastRise time v d (x ∷ h)) r)) x h p
-        (λ q. at-rise v d (λ r. T (le r (lastRise time u e h))) x h (within (x ∷ h) p) (λ w. rise-order h (order-before x h o) q) (λ w. no (within h q) w))
-        (λ q. rise-before v d x h o (within (x ∷ h) p) .1)
+        (λ q. at-rise v d (λ r. T (le r (lastRise time u e h))) x h (within (x ∷ h) p) (λ w. rise-order h (order-before time x h o) q) (λ w. no (within h q) w))
+        (λ q. rise-first time v d (x ∷ h) o)
 
     pub run-widens : (n : Float) (h : List A) → T (inOrder time h) → running time n u h ≡ true
         → running time n v h ≡ true
     run-widens n [] o r = no r (run-none u e n)
     run-widens n (x ∷ h) o r =
         let b = both-are (u (x ∷ h)) (le n (sub binary64 (time x) (lastRise time u e (x ∷ h)))) (sym (running-step time u e n x h) ∙ r) in
-        let i = rise-before u e x h o (b .0) in
-        let j = rise-before v d x h o (within (x ∷ h) (b .0)) in
         running-step time v d n x h
         ∙ ap₂ (λ (a c : Bool). a && c) (within (x ∷ h) (b .0)) (is-true (le n (sub binary64 (time x) (lastRise time v d (x ∷ h))))
         (le-trans n (sub binary64 (time x) (lastRise time u e (x ∷ h))) (sub binary64 (time x) (lastRise time v d (x ∷ h))) (holds _ (b .1))
-        (minus-anti (time x) (lastRise time v d (x ∷ h)) (lastRise time u e (x ∷ h)) (time-here time x h o) (j .0) (i .0) (rise-order (x ∷ h) o (b .0)) (i .1))))
+        (minus-anti (time x) (lastRise time v d (x ∷ h)) (lastRise time u e (x ∷ h)) (time-here time x h o) (rise-time time v d (x ∷ h) o) (rise-time time u e (x ∷ h) o)
+        (rise-order (x ∷ h) o (b .0)) (rise-first time u e (x ∷ h) o))))

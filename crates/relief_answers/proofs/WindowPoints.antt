@@ -11,7 +11,7 @@ use Rattle.reals.proofs.Truth.{is-true, is-false, holds, fails}
 use Rattle.reals.proofs.FloatOrder.{lt-opposite, lt-le, lt-excludes, le-antisym}
 use Rattle.past.specs.Stepped.{inOrder}
 use Rattle.past.specs.Whole.{stateAfter}
-use Rattle.past.proofs.Stepped.{time-here}
+use Rattle.past.proofs.Stepped.{order-here, time-here}
 use Rattle.past.proofs.Judged.{time-number}
 use Rattle.moving_average.specs.Window.{Point, point, sameTime, dropOld, endsAt, store}
 use Rattle.moving_average.specs.State.{held, cutoff, movingAverageNew}
@@ -27,7 +27,7 @@ use Rattle.relief_fan_group.proofs.Blocks.{before}
 use Rattle.relief_fan_group.proofs.Demand3.{accepted-good, state-after}
 use Rattle.relief_answers.specs.Latches.{taken}
 use Rattle.relief_answers.specs.Sum.{pressureSum, sumUpTo, windowPoints}
-use Rattle.relief_answers.proofs.Runs.{not-below-itself, order-here}
+use Rattle.relief_answers.proofs.Runs.{not-below-itself}
 use Rattle.relief_answers.proofs.Latches.{taken-in-order}
 use Rattle.relief_answers.proofs.Points.{window, took, sum-here, window-accepted}
 

@@ -5,9 +5,7 @@ use mathlib.Core.Bool.{Bool, false, not, _&&_}
 use mathlib.Core.List.{[], _∷_}
 use lib.Dec.{T}
 use lib.Ieee.{Float, add, sub, le, ofBits}
-use lib.Ieee.Fits.{and-r}
 use Rattle.reals.specs.Constants.{plusZero}
-use Rattle.reals.specs.Sign.{isTime}
 use Rattle.reals.specs.declared.threshold.ThresholdMode.the-variants.{Greater, Less}
 use Rattle.reals.specs.declared.threshold.ThresholdState.{ThresholdState}
 use Rattle.reals.specs.Threshold.{thresholdOutput, thresholdUpdate}
@@ -16,11 +14,11 @@ use Rattle.logical.specs.declared.present_timer.PresentTimerState.{PresentTimer
 use Rattle.logical.specs.declared.timer.TimerOutput.{TimerOutput}
 use Rattle.logical.specs.Pre.{preOutput, preUpdate}
 use Rattle.logical.specs.PresentTimer.{presentTimerOutput, presentTimerUpdate}
-use Rattle.past.specs.Stepped.{notBefore, inOrder}
+use Rattle.past.specs.Stepped.{inOrder}
 use Rattle.past.specs.Runs.{presentTimer}
 use Rattle.past.specs.Turns.{pulse}
 use Rattle.past.specs.Acceptance.{lastTime}
-use Rattle.past.proofs.Stepped.{finite-here}
+use Rattle.past.proofs.Stepped.{order-before, finite-here}
 use Rattle.past.proofs.TurnLaws.{gate}
 use Rattle.past.proofs.Laws.{since-none}
 use Rattle.past.proofs.LevelReading.{near, far, band, thresholdOf, threshold-new, threshold-output, threshold-update}
@@ -57,7 +55,7 @@ last-reads [] = unfold reliefBlocks in refl
 last-reads (x ∷ h) = unfold reliefNext in refl
 
 pub before : (x : ReliefRow) (h : Past) → T (inOrder timeOfRow (x ∷ h)) → T (inOrder timeOfRow h)
-before x h o = and-r (isTime (x .time) && notBefore timeOfRow (x .time) h) (inOrder timeOfRow h) o
+before x h o = order-before timeOfRow x h o
 
 -- ---- the two ways of staging: delays above 0, bands on the right side
 pub up-positive : le stageUpTime plusZero ≡ false

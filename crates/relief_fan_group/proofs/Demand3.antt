@@ -20,7 +20,7 @@ use Rattle.past.specs.Acceptance.{verdictAfter}
 use Rattle.logical.specs.Run.{run}
 use Rattle.past.specs.Whole.{Told, toldBy, nextBy, stateAfter, readAll}
 use Rattle.past.specs.Whole as whole
-use Rattle.past.proofs.Stepped.{time-here}
+use Rattle.past.proofs.Stepped.{order-here, time-here}
 use Rattle.past.proofs.Whole.{good-accepted, state-is, run-reads, read-at, readNewest}
 use Rattle.past.proofs.Sequence.{in-order, told-where-accepted}
 use Rattle.moving_average.specs.Past.{belowLast, timeAccepted, accepted, windowIsFull, movingAverageOf}
@@ -61,7 +61,7 @@ judged-order = in-order timeOfRow numbersFinite time-finite
 in-time : (x : ReliefRow) (h : Past) → T (inOrder timeOfRow (x ∷ h)) → T (timeAccepted (map timeOfRow h) (x .time))
 in-time x h o =
     and-i (isTime (x .time)) (not (belowLast (map timeOfRow h) (x .time))) (time-here timeOfRow x h o)
-    (rw (above h (and-r (isTime (x .time)) (notBefore timeOfRow (x .time) h) (and-l (isTime (x .time) && notBefore timeOfRow (x .time) h) (inOrder timeOfRow h) o))) tt)
+    (rw (above h (order-here timeOfRow x h o)) tt)
   where
     above : (h : Past) → T (notBefore timeOfRow (x .time) h) → belowLast (map timeOfRow h) (x .time) ≡ false
     above [] l = refl
