@@ -32,12 +32,13 @@ pub record Timers : Type 0 where
   pub answers : List TimerOutput
   pub left : FreezeLeft
 
--- at a row handed to a state: its refusal, or its timers
+-- those of a row with these signals, which was handed to this state
 abbrev pub timersOf : FreezeState → FreezeSignals → Timers
 timersOf state signals =
     let calls = signals .calls in
     record { answers = calls .tim ∷ calls .tim1 ∷ calls .tim2 ∷ calls .tim3 ∷ calls .tim4 ∷ signals .tim5 ∷ []; left = freezeLeft state signals }
 
+-- of a row handed to a state: its refusal, or its timers
 abbrev pub timersTold : FreezeState → FreezeRow → Told Timers
 timersTold state row = toldBy (freezeVerdict state row) (timersOf state (freezeSignals state row))
 
@@ -46,6 +47,7 @@ timersTold state row = toldBy (freezeVerdict state row) (timersOf state (freezeS
 abbrev pub leftFor : Float → (Past → Bool) → Past → Float
 leftFor n u h = timerOutputLeft (timedFor n u h) n
 
+-- the timers of the row here
 unfoldable pub timersRead : Past → Timers
 timersRead h =
     record {

@@ -162,8 +162,7 @@ module _ {A : Type 0} (time : A → Float) (n : Float) (u : List A → Bool) (e 
   pub passed-elapsed : (x : A) (h : List A) → T (inOrder time (x ∷ h)) → passed time n u (x ∷ h) ≡ le n (elapsed time u (x ∷ h))
   passed-elapsed x h o = passed-running (x ∷ h) o ∙ running-elapsed x h (finite-here time x h o)
 
-  -- ---- what is left. Where u has been on at every row from k rows ago up to here, in whole seconds: the mark is on here exactly if the time since then is at least what was
-  -- left then. So of the rows after a row, the mark comes at the first whose time is that much later
+  -- ---- what is left
   elapsed-on : (x : A) (h : List A) → T (finite (time x)) → T (u (x ∷ h)) → elapsed time u (x ∷ h) ≡ sub binary64 (time x) (lastRise time u e (x ∷ h))
   elapsed-on x h f t = rw (elapsed-step time u e x h, is-true (u (x ∷ h)) t) (go (u h))
     where
@@ -176,6 +175,8 @@ module _ {A : Type 0} (time : A → Float) (n : Float) (u : List A → Bool) (e 
   present-is [] o t = absurd (fails (u []) e t)
   present-is (x ∷ h) o t = rw (running-is time u e n (x ∷ h), elapsed-on x h (finite-here time x h o) t, is-true (u (x ∷ h)) t) refl
 
+  -- where u has been on at every row from k rows ago up to here, in whole seconds: the mark is on here exactly if the time since then is at least what was left then. So of the
+  -- rows after a row, the mark comes at the first whose time is that much later
   module _ (m : ℕ) (M : m ≤ 2 ^ 53) (N : n ≡ whole m) (k : ℕ) (h : List A) (on : T (every (suc k) (λ j. u (drop j h)))) (o : T (inOrder time h)) (w : WholeSeconds time h) where
     pub present-left : running time n u h ≡ le (timerOutputLeft (presentTimer time n u (drop k h)) n) (sinceTime time k h)
     present-left =

@@ -38,7 +38,7 @@ module _ {A : Type 0} (time : A → Float) where
   abbrev pub presentTimer : Float → (List A → Bool) → List A → TimerOutput
   presentTimer n u h = record { passed = running n u h; elapsed = elapsed u h }
 
-  -- the time of every row is a whole number of seconds up to 2 ^ 53, of which binary64 holds each
+  -- the time of every row is a whole number of seconds up to 2 ^ 53, of which binary64 holds each; so is the 0 that stands before row 0
   abbrev pub WholeSeconds : List A → Type 0
   WholeSeconds h = (k : ℕ) → (s : ℕ) × ((s ≤ 2 ^ 53) × (timeOf (drop k h) ≡ whole s))
 

@@ -33,10 +33,11 @@ pub record Timers : Type 0 where
   pub answers : List TimerOutput
   pub left : ReliefLeft
 
--- at a row handed to a state: its refusal, or its timers
+-- those of a row with these signals, which was handed to these blocks
 abbrev pub timersOf : ReliefBlocks → ReliefSignals → Timers
 timersOf blocks signals = record { answers = signals .dampers .tim ∷ signals .up .«up_tim» ∷ signals .down .«dow_tim» ∷ []; left = reliefLeft blocks signals }
 
+-- of a row handed to a state: its refusal, or its timers
 abbrev pub timersTold : ReliefState → ReliefRow → Told Timers
 timersTold state row = toldBy (reliefVerdict (state .blocks) row (movingAverageIsFull (state .window) (row .time))) (timersOf (state .blocks) (signalsAt state row))
 
@@ -59,6 +60,7 @@ timedFor n u h = presentTimer timeOfRow n u h
 abbrev pub leftFor : Float → (Past → Bool) → Past → Float
 leftFor n u h = timerOutputLeft (timedFor n u h) n
 
+-- the timers of the row here
 unfoldable pub timersRead : Past → Timers
 timersRead h =
     record {
