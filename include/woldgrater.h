@@ -33,7 +33,7 @@ extern "C" {
 #define WOLDGRATER_VERSION_MINOR 0
 
 /* Statuses. 0: accepted. The others are refusals: a refused row hands the old state back (the same words, where a call gave them; of
- * any other words those of the state that they are read as), and its commands and signals are all zero and mean nothing. */
+ * any other words those of the state that they are read as), and its commands, signals and seconds left are all zero and mean nothing. */
 #define WOLDGRATER_ACCEPTED 0
 #define WOLDGRATER_NOT_FINITE 1    /* a number of the row is NaN or infinite */
 #define WOLDGRATER_NEGATIVE_TIME 2 /* the time has its sign bit set: -0.0 too */
