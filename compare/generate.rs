@@ -128,7 +128,10 @@ fn played(kind: &str, seed: u64, count: Option<usize>) -> Vec<u8> {
 
     let mut random =
         Random::new(seed ^ (kind.len() as u64) << 56 ^ u64::from(kind.as_bytes()[0]) << 48);
-    let rows = plan(&mut random, count);
+    let mut rows = plan(&mut random, count);
+    if kind == "relief" {
+        rows = odd::alarms_out_of_range(&mut random, &rows);
+    }
     let mut file = first_line(&mut random, kind, between);
     let often = random.pick(&[2, 10, 40]);
     for row in rows {

@@ -1,7 +1,7 @@
 /* Woldgrater for firmware on x86-64 (System V calls): freeze protection, relief fan group and economizer of air handlers.
  *
  * A call a row for each sequence: link target/staticlib/libwoldgrater.a, which `rt staticlib woldgrater` writes. Signals for a display,
- * the line of a row for a row file, and whole row files: link libwoldgrater_service.a beside it (`rt staticlib woldgrater_service`).
+ * the alarms that a relief state remembers, the line of a row for a row file, and whole row files: link libwoldgrater_service.a beside it (`rt staticlib woldgrater_service`).
  * Every function stands in a section of its own, so with -Wl,--gc-sections a program has only what it calls. docs/FIRMWARE.md leads
  * from a struct of samples to a linked program.
  *
@@ -16,7 +16,8 @@
  * - The stack has room for the call, as WOLDGRATER_STACK_* say below, besides the caller's own structs.
  * - The floating-point unit is set as a C program starts with it: rounding to nearest, subnormal numbers kept (no flush to zero, so
  *   nothing linked with -ffast-math), exceptions masked. Else the answers may be other ones, or the processor may trap.
- * - A state is kept for the library of one WOLDGRATER_VERSION_MAJOR: another may lay its words out otherwise (2 and 3 do not).
+ * - A state is kept for the library of one WOLDGRATER_VERSION_MAJOR: another may lay its words out otherwise (of 3 and 4 those of
+ *   freeze protection and of the economizer are the same, those of the relief fan group and of the row reader are not).
  */
 #ifndef WOLDGRATER_H
 #define WOLDGRATER_H
@@ -29,17 +30,18 @@ extern "C" {
 #endif
 
 /* Major, minor: the minor grows with what is added, the major where a state or a struct is laid out anew. */
-#define WOLDGRATER_VERSION_MAJOR 3
+#define WOLDGRATER_VERSION_MAJOR 4
 #define WOLDGRATER_VERSION_MINOR 0
 
 /* Statuses. 0: accepted. The others are refusals: a refused row hands the old state back (the same words, where a call gave them; of
  * any other words those of the state that they are read as), and its commands, signals and seconds left are all zero and mean nothing. */
 #define WOLDGRATER_ACCEPTED 0
-#define WOLDGRATER_NOT_FINITE 1    /* a number of the row is NaN or infinite */
-#define WOLDGRATER_NEGATIVE_TIME 2 /* the time has its sign bit set: -0.0 too */
-#define WOLDGRATER_FALLING_TIME 3  /* the time is below that of the last accepted row */
-#define WOLDGRATER_WINDOW_FULL 4   /* relief: the window of 300 s holds 512 points */
-#define WOLDGRATER_NO_ROOM 10      /* a line does not fit the output */
+#define WOLDGRATER_NOT_FINITE 1          /* a number of the row is NaN or infinite */
+#define WOLDGRATER_NEGATIVE_TIME 2       /* the time has its sign bit set: -0.0 too */
+#define WOLDGRATER_FALLING_TIME 3        /* the time is below that of the last accepted row */
+#define WOLDGRATER_ALARM_OUT_OF_RANGE 11 /* relief: an alarm is below -128 or above 127; tried after 3 and before 4 */
+#define WOLDGRATER_WINDOW_FULL 4         /* relief: the window of 300 s holds 512 points */
+#define WOLDGRATER_NO_ROOM 10            /* a line does not fit the output */
 
 /* The numbers of a relief window: each of its two arrays. */
 #define WOLDGRATER_WINDOW 512
@@ -243,7 +245,7 @@ struct woldgrater_econ_shown {
 /* Relief fan group. */
 
 struct woldgrater_relief_state {
-    uint64_t words[171];
+    uint64_t words[172];
 };
 
 /* A sampled row: its time in seconds, and Inputs. The pressure in pascal, an alarm's level, a flag for each fan. */
@@ -343,6 +345,13 @@ struct woldgrater_relief_shown {
     struct woldgrater_relief_left left;
 };
 
+/* The alarm of a fan at the last accepted row, 0 before any, and 1 where there is such a fan: for another index
+ * both are 0. */
+struct woldgrater_alarm_given {
+    uint64_t known;
+    int64_t alarm;
+};
+
 /* The line of a row. */
 
 /* The status, and the number of bytes written. */
@@ -354,7 +363,7 @@ struct woldgrater_line_given {
 /* Row files. */
 
 struct woldgrater_state {
-    uint64_t words[265];
+    uint64_t words[266];
 };
 
 /* The same, and 1 where the reader has stopped: it reads no more. */
@@ -380,7 +389,10 @@ struct woldgrater_fed {
  * its mark and its elapsed seconds there, 0 where its input is off or has just come on, and in `left` the seconds until it passes, 0 once
  * it has. While the input stays on it passes at the first row that much later: exactly so for times in whole seconds, else but for the
  * rounding of a difference of times (docs/FIRMWARE.md). A relief caller lends the two arrays of its window, which woldgrater_relief_start
- * sets to 0 and woldgrater_relief_row changes; a caller that goes back to an earlier state puts the arrays back with it. */
+ * sets to 0 and woldgrater_relief_row changes; a caller that goes back to an earlier state puts the arrays back with it.
+ *
+ * A relief state remembers the alarms of the last accepted row in a byte each: woldgrater_relief_alarm gives that of a fan, by its index
+ * from 0 to 3, 0 before any row; for an index above 3 known is 0. */
 struct woldgrater_freeze_state woldgrater_freeze_start(void);
 struct woldgrater_freeze_given woldgrater_freeze_row(struct woldgrater_freeze_state state, struct woldgrater_freeze_row row);
 struct woldgrater_freeze_shown woldgrater_freeze_signals(struct woldgrater_freeze_state state, struct woldgrater_freeze_row row);
@@ -395,6 +407,7 @@ struct woldgrater_relief_given woldgrater_relief_row(double times[WOLDGRATER_WIN
 struct woldgrater_relief_shown woldgrater_relief_signals(const double times[WOLDGRATER_WINDOW],
                                                          const double integrals[WOLDGRATER_WINDOW],
                                                          struct woldgrater_relief_state state, struct woldgrater_relief_row row);
+struct woldgrater_alarm_given woldgrater_relief_alarm(struct woldgrater_relief_state state, size_t fan);
 
 /* ---- The line of a row, for a row file (docs/ROW_FILES.md). Gives status 0 and the line's bytes with its newline, which stand in the
  * first bytes of out; or the refusal, 1 before 10, and 0 bytes, with out as it was. A row's time is not looked at. */

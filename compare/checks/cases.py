@@ -1,9 +1,9 @@
-"""The cases of document 01 that a row file can show, as tables, and the shortest lists that miss a
-relief stage.
+"""The cases of document 01 that a row file can show, as tables, the shortest lists that miss a relief
+stage, and alarms that do not fit a signed byte (document 02, job 10).
 
 Fields stand before the bar, what the answer must hold after it; fields that a table does not name
 have the values of DEFAULTS. A dash is not looked at. R4 and the panic of E4 are tests in
-compare/reference, since no row file shows them; F7 and R5 are in playing.py.
+compare/reference, since no row file shows them; F7, R5 and alarms in a full window are in playing.py.
 """
 
 DEFAULTS = {
@@ -242,6 +242,45 @@ CASES = [
         4    nan     | 1      -
         -0.0 295     | 2      -
         0    295     | 3      -
+    '''),
+    ('alarms of each fan from -128 to 127 are taken, others refused with 11', 'relief', '''
+        time alarm_1 alarm_2 alarm_3 alarm_4 | status
+        0    -128    127     -128    127     | 0
+        1    127     -128    127     -128    | 0
+        2    -129    0       0       0       | 11
+        2    128     0       0       0       | 11
+        2    0       -129    0       0       | 11
+        2    0       128     0       0       | 11
+        2    0       0       -129    0       | 11
+        2    0       0       128     0       | 11
+        2    0       0       0       -129    | 11
+        2    0       0       0       128     | 11
+        2    -2**63  0       0       0       | 11
+        2    0       2**63-1 0       0       | 11
+        2    0       0       256+2   0       | 11
+        2    0       0       0       -256    | 11
+        2    127     127     127     127     | 0
+    '''),
+    ('refusals 1, 2 and 3 of a relief row come before 11, and an equal time is taken', 'relief', '''
+        time pressure alarm_2 alarm_4 | status
+        15   18       0       0       | 0
+        nan  18       128     0       | 1
+        -1   inf      0       -129    | 1
+        16   nan      128     0       | 1
+        -1   18       0       128     | 2
+        -0.0 18       -129    0       | 2
+        14   18       128     0       | 3
+        0    18       0       -129    | 3
+        15   18       128     0       | 11
+        16   18       0       -129    | 11
+        15   18       127     -128    | 0
+    '''),
+    ('a row refused with 11 leaves no trace: its pressure is not in the mean, nor its time the last', 'relief', '''
+        time pressure alarm_3 | status mean
+        0    18       0       | 0      0
+        10   1000     128     | 11     -
+        20   1000     256+2   | 11     -
+        15   18       0       | 0      270/(15+0.001)
     '''),
     ('a refused row leaves no trace', 'freeze', '''
         time  supply reset | status stage

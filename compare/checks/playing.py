@@ -48,6 +48,7 @@ def check_cases():
         check(name, '; '.join(faults))
     check_f7()
     check_r5()
+    check_alarms_in_a_full_window()
 
 
 def check_f7():
@@ -70,14 +71,29 @@ def check_f7():
     check('F7 it overflows to NaN at last', '' if shown[100] != 'nan' and shown[-1] == 'nan' else shown)
 
 
-def check_r5():
-    def window(times):
-        return statuses(row_file('relief', [DEFAULTS['relief'] | {'time': time} for time in times]))
+# Times that fill the window of 512 points.
+HALF_SECONDS = [row / 2 for row in range(512)]
 
-    half_seconds = [row / 2 for row in range(512)]
+
+def window(times, *more):
+    """The statuses of relief rows at these times, and then of more, each by its time and the alarm of fan 4."""
+    rows = [{'time': time} for time in times] + [{'time': time, 'alarm_4': alarm} for time, alarm in more]
+    return statuses(row_file('relief', [DEFAULTS['relief'] | row for row in rows]))
+
+
+def check_r5():
     expect('R5 512 are accepted, 256 and 300 are refused, 300.5 is taken',
-           window(half_seconds + [256, 300, 300.5]), [0] * 512 + [4, 4, 0])
+           window(HALF_SECONDS + [256, 300, 300.5]), [0] * 512 + [4, 4, 0])
     expect('R5 one step before 300.5 is refused',
-           window(half_seconds + [math.nextafter(300.5, 0), 300.5, 300.75]), [0] * 512 + [4, 0, 4])
+           window(HALF_SECONDS + [math.nextafter(300.5, 0), 300.5, 300.75]), [0] * 512 + [4, 0, 4])
     expect('R5 the last time is taken in a full window',
-           window(half_seconds + [255.5, 255.5, 255.75]), [0] * 514 + [4])
+           window(HALF_SECONDS + [255.5, 255.5, 255.75]), [0] * 514 + [4])
+
+
+def check_alarms_in_a_full_window():
+    expect('11 precedes 4',
+           window(HALF_SECONDS, (256, 128), (256, 127), (300, -129), (300, -128)), [0] * 512 + [11, 4, 11, 4])
+    expect('a row refused with 11 takes no place in the window',
+           window(HALF_SECONDS[:-1], (255.25, 128), (255.5, 127), (256, 127)), [0] * 511 + [11, 0, 4])
+    expect('nor does it make room there',
+           window(HALF_SECONDS, (300.5, 128), (300, 127), (300.5, 127)), [0] * 512 + [11, 4, 0])

@@ -1,6 +1,7 @@
 //! Which lines were refused, and for which sort of damage.
 
-use super::{Counts, WIDTH};
+use super::{Counts, WIDTH, relief};
+use crate::columns::Columns;
 
 const SORTS: [&str; 18] = [
     "missing last newline",
@@ -30,35 +31,39 @@ pub fn count(counts: &mut Counts, text: &[u8], answers: &[u8]) {
         "relief" => "fbbfssssbbbb",
         _ => "fffffbss",
     };
+    let refusals: &[i64] = match counts.kind {
+        "relief" => &[1, 2, 3, 11, 4, 5],
+        _ => &[1, 2, 3, 5],
+    };
+    let mut alarms = relief::Alarms::default();
     let mut rest = text;
     for answer in answers.split_inclusive(|&byte| byte == b'\n') {
         let end = rest.iter().position(|&byte| byte == b'\n');
         let line = &rest[..end.unwrap_or(rest.len())];
         rest = end.map_or(&[], |end| &rest[end + 1..]);
-        let status = answer[WIDTH - 1];
-        counts.when("row accepted", status == b'0');
-        for refusal in 1..=5 {
-            if refusal != 4 || counts.kind == "relief" {
-                counts.when(
-                    &format!("row refused with {refusal}"),
-                    status == b'0' + refusal,
-                );
-            }
+        let status = Columns::new(answer).signed().unwrap();
+        counts.when("row accepted", status == 0);
+        for &refusal in refusals {
+            counts.when(&format!("row refused with {refusal}"), status == refusal);
         }
         if counts.kind != "econ" {
             counts.when("answer with a NaN", contains(answer, "9221120237041090560"));
         }
-        if counts.kind != "freeze" {
-            counts.when(
-                "least signed number taken",
-                status == b'0' && contains(line, "-9223372036854775808"),
-            );
-            counts.when(
-                "largest signed number taken",
-                status == b'0' && contains(line, "9223372036854775807"),
-            );
+        match counts.kind {
+            "relief" => alarms.count(counts, line, status),
+            "econ" => {
+                counts.when(
+                    "least signed number taken",
+                    status == 0 && contains(line, "-9223372036854775808"),
+                );
+                counts.when(
+                    "largest signed number taken",
+                    status == 0 && contains(line, "9223372036854775807"),
+                );
+            }
+            _ => {}
         }
-        let sort = if status == b'5' {
+        let sort = if status == 5 {
             sort(line, end.is_some(), columns)
         } else {
             ""

@@ -3,6 +3,8 @@
 use std::cell::RefCell;
 
 use super::Counts;
+use crate::acceptance::{Before, fits_byte};
+use crate::columns::Columns;
 
 #[derive(Clone, Copy, Default)]
 pub struct Signals {
@@ -129,4 +131,63 @@ pub fn count(counts: &mut Counts) {
         );
         before = row;
     }
+}
+
+/// Events of the alarms, which have to fit a signed byte, over the lines of a file.
+#[derive(Default)]
+pub struct Alarms {
+    before: Before,
+}
+
+impl Alarms {
+    pub fn count(&mut self, counts: &mut Counts, line: &[u8], status: i64) {
+        let Some((time, alarm)) = time_and_alarms(line) else {
+            return;
+        };
+        let (taken, refused) = (status == 0, status == 11);
+        if taken {
+            self.before.relief_status(time, true, &alarm);
+        }
+        for fan in 0..4 {
+            // Whether the other three alarms fit.
+            let alone = (0..4).all(|other| other == fan || fits_byte(&alarm[other]));
+            for number in [-128, 127] {
+                let event = format!("alarm {number} of fan {} taken", fan + 1);
+                counts.when(&event, taken && alarm[fan] == number);
+            }
+            for number in [-129, 128] {
+                let event = format!("alarm {number} of fan {} alone refused", fan + 1);
+                counts.when(&event, refused && alone && alarm[fan] == number);
+            }
+        }
+        let beyond: Vec<i64> = alarm.into_iter().filter(|alarm| !fits_byte(alarm)).collect();
+        let has = |number| refused && beyond.contains(&number);
+        counts.when("least signed number refused with 11", has(i64::MIN));
+        counts.when("largest signed number refused with 11", has(i64::MAX));
+        counts.when(
+            "11 for a number that is 2 when cut to 8 bits",
+            refused && beyond.iter().any(|&number| number as i8 == 2),
+        );
+        for first in 1..=3 {
+            counts.when(
+                &format!("{first} where 11 fits too"),
+                status == first && !beyond.is_empty(),
+            );
+        }
+        // Whether the row would be refused with 4 if its alarms did fit.
+        let full = || self.before.clone().relief_status(time, true, &[0; 4]) == 4;
+        counts.when("11 where 4 fits too", refused && full());
+    }
+}
+
+/// Time and alarms of a row line, where these columns and those between them are well formed.
+fn time_and_alarms(line: &[u8]) -> Option<(f64, [i64; 4])> {
+    let mut columns = Columns::new(line);
+    let time = columns.float()?;
+    let _ = (columns.flag()?, columns.flag()?, columns.float()?);
+    let mut alarm = [0; 4];
+    for number in &mut alarm {
+        *number = columns.signed()?;
+    }
+    Some((time, alarm))
 }

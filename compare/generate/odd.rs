@@ -82,6 +82,26 @@ pub fn any_size(random: &mut Random, row: &Row) -> Row {
     row
 }
 
+/// The rows of a relief plan, with copies put between them in which one alarm does not fit a signed
+/// byte. A copy is of the row that follows it or of a later one: a program in which it leaves a trace
+/// goes on from another time.
+pub fn alarms_out_of_range(random: &mut Random, rows: &[Row]) -> Vec<Row> {
+    // Just beyond the bounds, far off, and numbers that are 2 or 0 when cut to 8 bits.
+    let alarms = [-129, 128, -129, 128, i64::MIN, i64::MAX, 256 + 2, (1 << 32) + 2, -256];
+    let often = random.pick(&[5, 20, 80]);
+    let mut out = Vec::new();
+    for (index, row) in rows.iter().enumerate() {
+        if random.one_in(often) {
+            let mut copy = rows[(index + random.below(4)).min(rows.len() - 1)].clone();
+            let fan = random.pick(&columns(&copy, is_signed));
+            copy[fan] = Cell::Signed(random.pick(&alarms));
+            out.push(copy);
+        }
+        out.push(row.clone());
+    }
+    out
+}
+
 /// A NaN with some payload and sign, quiet or signalling.
 fn a_nan(random: &mut Random) -> f64 {
     f64::from_bits(random.bits() | 0x7ff0_0000_0000_0001)

@@ -42,7 +42,7 @@ impl Rows {
         match random.below(25) {
             0 => self.supply[random.below(2)] = false,
             1..=4 => self.supply = [true; 2],
-            5 => self.alarm[random.below(4)] = random.pick(&[2, 2, 3, 1]),
+            5 => self.alarm[random.below(4)] = random.pick(&[2, 2, 2, 3, 1, -128, 127]),
             6 => self.alarm = [0; 4],
             7 => self.proof[random.below(4)] ^= true,
             8 if random.one_in(3) => self.supply = [false; 2],

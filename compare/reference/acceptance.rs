@@ -1,11 +1,11 @@
 //! Which rows are refused, read off the list of rows alone (document 01, 'What each row refuses'
-//! and 'The past, read without state').
+//! and 'The past, read without state'; document 02, job 10, for alarms).
 
 pub const BADLY_FORMED: u8 = 5;
 pub const NO_KIND: u8 = 6;
 
 /// The accepted rows before the present one, as far as refusals depend on them.
-#[derive(Default)]
+#[derive(Clone, Default)]
 pub struct Before {
     last: Option<f64>,
     /// The different times of the accepted rows, ascending.
@@ -25,10 +25,13 @@ impl Before {
     }
 
     /// The refusal of a relief row, or 0 where the row is accepted.
-    pub fn relief_status(&mut self, time: f64, finite: bool) -> u8 {
+    pub fn relief_status(&mut self, time: f64, finite: bool, alarms: &[i64; 4]) -> u8 {
         let status = self.refusal(time, finite);
         if status != 0 {
             return status;
+        }
+        if !alarms.iter().all(fits_byte) {
+            return 11;
         }
         let from = self.window_start(time);
         if self.last != Some(time) {
@@ -68,4 +71,9 @@ impl Before {
         }
         from
     }
+}
+
+/// Whether an alarm is from -128 to 127, as a signed byte holds it.
+pub fn fits_byte(alarm: &i64) -> bool {
+    (-128..=127).contains(alarm)
 }

@@ -33,14 +33,11 @@ impl Kind for Econ {
         })
     }
 
-    fn finite(row: &Row) -> bool {
-        row.outdoor_airflow_normalized.is_finite()
+    fn status(before: &mut Before, time: f64, row: &Row) -> u8 {
+        let finite = row.outdoor_airflow_normalized.is_finite()
             && row.minimum_outdoor_airflow_setpoint_normalized.is_finite()
             && row.supply_temperature_signal.is_finite()
-            && row.outdoor_air_temperature.is_finite()
-    }
-
-    fn status(before: &mut Before, time: f64, finite: bool) -> u8 {
+            && row.outdoor_air_temperature.is_finite();
         before.status(time, finite)
     }
 

@@ -37,8 +37,8 @@ impl Kind for Freeze {
         })
     }
 
-    fn finite(row: &Inputs) -> bool {
-        row.outdoor_damper_min_position.is_finite()
+    fn status(before: &mut Before, time: f64, row: &Inputs) -> u8 {
+        let finite = row.outdoor_damper_min_position.is_finite()
             && row.outdoor_damper.is_finite()
             && row.heating_coil.is_finite()
             && row.minimum_outdoor_damper.is_finite()
@@ -46,10 +46,7 @@ impl Kind for Freeze {
             && row.supply_air_temperature.is_finite()
             && row.supply_fan_speed.is_finite()
             && row.cooling_coil.is_finite()
-            && row.mixed_air_temperature.is_finite()
-    }
-
-    fn status(before: &mut Before, time: f64, finite: bool) -> u8 {
+            && row.mixed_air_temperature.is_finite();
         before.status(time, finite)
     }
 

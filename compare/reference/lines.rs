@@ -15,9 +15,8 @@ pub trait Kind {
 
     /// The fields after the time.
     fn read(columns: &mut Columns) -> Option<Self::Row>;
-    fn finite(row: &Self::Row) -> bool;
     /// The row's refusal, or 0 where it is accepted.
-    fn status(before: &mut Before, time: f64, finite: bool) -> u8;
+    fn status(before: &mut Before, time: f64, row: &Self::Row) -> u8;
     /// The published trace over the accepted rows.
     fn trace(times: &[f64], rows: &[Self::Row]) -> Self::Trace;
     fn write(trace: &Self::Trace, index: usize, out: &mut Vec<u8>);
@@ -32,7 +31,7 @@ pub fn answer<K: Kind>(input: &mut Input<impl Read>, out: &mut impl Write) -> io
     while let Some(line) = next_line::<K>(input)? {
         let status = match line {
             Line::Row(time, row) => {
-                let status = K::status(&mut before, time, K::finite(&row));
+                let status = K::status(&mut before, time, &row);
                 if status == 0 {
                     times.push(time);
                     rows.push(row);
@@ -69,7 +68,7 @@ pub fn accepted<K: Kind>(input: &mut Input<impl Read>) -> io::Result<(Vec<f64>, 
     let mut before = Before::default();
     while let Some(line) = next_line::<K>(input)? {
         if let Line::Row(time, row) = line
-            && K::status(&mut before, time, K::finite(&row)) == 0
+            && K::status(&mut before, time, &row) == 0
         {
             times.push(time);
             rows.push(row);

@@ -37,12 +37,8 @@ impl Kind for Relief {
         })
     }
 
-    fn finite(row: &Inputs) -> bool {
-        row.pressure.is_finite()
-    }
-
-    fn status(before: &mut Before, time: f64, finite: bool) -> u8 {
-        before.relief_status(time, finite)
+    fn status(before: &mut Before, time: f64, row: &Inputs) -> u8 {
+        before.relief_status(time, row.pressure.is_finite(), &row.alarm)
     }
 
     fn trace(times: &[f64], rows: &[Inputs]) -> Trace {

@@ -53,14 +53,14 @@ static struct woldgrater_econ_row econ_sample(int n)
     return row;
 }
 
-/* A fan is proven on the row after the one that started it. */
+/* A fan is proven on the row after the one that started it. Fan 4 has an alarm of level 3, which shuts nothing. */
 static struct woldgrater_relief_row relief_sample(int n)
 {
     struct woldgrater_relief_row row = {
         .time = 60.0 * n,
         .supply = { 1, 1 },
         .pressure = 18.7,
-        .alarm = { 0, 0, 0, 0 },
+        .alarm = { 0, 0, 0, 3 },
         .proof = { relief.commands.fan_speed_1 > 0, relief.commands.fan_speed_2 > 0, relief.commands.fan_speed_3 > 0,
                    relief.commands.fan_speed_4 > 0 },
     };
@@ -95,5 +95,8 @@ int main(void)
     printf("last row: stage %" PRIu64 "  lat %" PRIu64 "  lat1 %" PRIu64 "  lat2 %" PRIu64 "\n", shown.signals.stage, shown.signals.lat_y,
            shown.signals.lat1_y, shown.signals.lat2_y);
     printf("stage 3 is called after %.0f s more: cold for %.0f s\n", shown.left.tim3, shown.signals.calls.tim3.elapsed);
+    for (size_t fan = 0; fan < 4; fan++)
+        printf("%s %" PRId64, fan == 0 ? "alarms remembered:" : "", woldgrater_relief_alarm(relief.state, fan).alarm);
+    printf("\n");
     return 0;
 }

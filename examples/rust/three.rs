@@ -41,9 +41,9 @@ fn econ_sample(time: f64, colder: f64, stage: u64) -> EconRow {
     }
 }
 
-/// A fan is proven on the row after the one that started it.
+/// A fan is proven on the row after the one that started it. Fan 4 has an alarm of level 3, which shuts nothing.
 fn relief_sample(time: f64, fans: [f64; 4]) -> ReliefRow {
-    ReliefRow { time, supply: [1, 1], pressure: 18.7, alarm: [0; 4], proof: fans.map(|speed| u64::from(speed > 0.0)) }
+    ReliefRow { time, supply: [1, 1], pressure: 18.7, alarm: [0, 0, 0, 3], proof: fans.map(|speed| u64::from(speed > 0.0)) }
 }
 
 /// Plays the rows; the status of the first that is refused.
@@ -69,6 +69,8 @@ fn play() -> Result<(), u64> {
         println!("last row: stage {}  lat {}  lat1 {}  lat2 {}", last.stage, last.lat_y, last.lat1_y, last.lat2_y);
         println!("stage 3 is called after {:.0} s more: cold for {:.0} s", left.tim3, last.calls.tim3.elapsed);
     }
+    let alarms: Vec<String> = (0..4).filter_map(|fan| relief.alarm(fan)).map(|alarm| alarm.to_string()).collect();
+    println!("alarms remembered: {}", alarms.join(" "));
     Ok(())
 }
 

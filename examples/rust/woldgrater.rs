@@ -198,7 +198,7 @@ pub struct EconShown {
 #[repr(C)]
 #[derive(Clone, Copy)]
 pub struct ReliefState {
-    words: [u64; 171],
+    words: [u64; 172],
 }
 
 #[repr(C)]
@@ -307,6 +307,13 @@ pub struct ReliefShown {
 
 #[repr(C)]
 #[derive(Clone, Copy)]
+pub struct AlarmGiven {
+    pub known: u64,
+    pub alarm: i64,
+}
+
+#[repr(C)]
+#[derive(Clone, Copy)]
 pub struct LineGiven {
     pub status: u64,
     pub len: usize,
@@ -315,7 +322,7 @@ pub struct LineGiven {
 #[repr(C)]
 #[derive(Clone, Copy)]
 pub struct State {
-    words: [u64; 265],
+    words: [u64; 266],
 }
 
 #[repr(C)]
@@ -339,6 +346,7 @@ unsafe extern "C" {
     fn woldgrater_relief_start(times: *mut f64, integrals: *mut f64) -> ReliefState;
     fn woldgrater_relief_row(times: *mut f64, integrals: *mut f64, state: ReliefState, row: ReliefRow) -> ReliefGiven;
     fn woldgrater_relief_signals(times: *const f64, integrals: *const f64, state: ReliefState, row: ReliefRow) -> ReliefShown;
+    fn woldgrater_relief_alarm(state: ReliefState, fan: usize) -> AlarmGiven;
     fn woldgrater_relief_line(row: ReliefRow, out: *mut u8, out_len: usize) -> LineGiven;
     fn woldgrater_play(rows: *const u8, rows_len: usize, out: *mut u8, out_len: usize) -> usize;
     fn woldgrater_start() -> State;
@@ -454,6 +462,12 @@ impl Relief {
     pub fn left(&self, row: ReliefRow) -> Result<ReliefLeft, u64> {
         let shown = unsafe { woldgrater_relief_signals(self.times.as_ptr(), self.integrals.as_ptr(), self.state, row) };
         accepted(shown.status, shown.left)
+    }
+
+    /// The alarm of a fan, by its index from 0, at the last accepted row, 0 before any; nothing for an index above 3.
+    pub fn alarm(&self, fan: usize) -> Option<i64> {
+        let given = unsafe { woldgrater_relief_alarm(self.state, fan) };
+        (given.known != 0).then_some(given.alarm)
     }
 
     pub fn line(row: ReliefRow, out: &mut [u8]) -> Result<&[u8], u64> {

@@ -11,9 +11,9 @@
 #include <stdio.h>
 #include <stdlib.h>
 
-#include "timers.h"
+#include "alarms.h"
 
-enum { STATUSES = 5, WIDTH = 21 };
+enum { STATUSES = WOLDGRATER_ALARM_OUT_OF_RANGE + 1, WIDTH = 21 };
 
 /* ---- Lines */
 
@@ -86,13 +86,16 @@ static int finite_row(void)
     return kind->row[i] == 0;
 }
 
-/* Statuses 1 and 2 are said by the row alone. */
+/* Statuses 1, 2 and but for 3 also 11 are said by the row alone. */
 static void check_status(void)
 {
     if (!finite_row())
         expect("a row that is not finite is refused with 1", status == WOLDGRATER_NOT_FINITE);
     else if (row[0] & SIGN)
         expect("a negative time is refused with 2", status == WOLDGRATER_NEGATIVE_TIME);
+    else if (!alarms_fit())
+        expect("an alarm that fits no byte is refused with 3 or 11",
+               status == WOLDGRATER_FALLING_TIME || status == WOLDGRATER_ALARM_OUT_OF_RANGE);
     else
         expect("the status is 0, 3 or for relief 4", status == WOLDGRATER_ACCEPTED || status == WOLDGRATER_FALLING_TIME ||
                                                          (kind->windowed && status == WOLDGRATER_WINDOW_FULL));
@@ -162,6 +165,8 @@ static void call_row(void)
         expect("a refused row hands the state back", memcmp(given_state, state, kind->state * sizeof *state) == 0);
         expect("a refused row leaves the window", window_left());
     }
+    if (kind->windowed)
+        expect("the alarms of the last accepted row are remembered", remembered());
     memcpy(state, given_state, sizeof state);
 }
 
@@ -276,6 +281,8 @@ static void play_forged(size_t n)
         kind->play();
         check_status();
         check_signals();
+        if (kind->windowed && below(16) == 0)
+            expect("of any state four bytes are remembered", bytes_remembered());
         if (below(16) == 0) {
             row_text(text);
             check_line(text);

@@ -65,6 +65,20 @@ static uint64_t any_whole(int64_t most)
     return below(8) ? below((uint64_t)most + 1) : (uint64_t)extreme[below(sizeof extreme / sizeof *extreme)];
 }
 
+/* A level, or a bound of a signed byte. */
+static uint64_t any_alarm(void)
+{
+    static const int64_t some[] = { INT8_MIN, INT8_MIN + 1, -1, INT8_MAX - 1, INT8_MAX };
+    return below(4) ? below(5) : (uint64_t)some[below(sizeof some / sizeof *some)];
+}
+
+/* One that no signed byte holds: beside a bound, a level with a byte more, or far off. */
+static uint64_t wide_alarm(void)
+{
+    static const int64_t some[] = { INT8_MIN - 1, INT8_MAX + 1, 256 + 2, -256, INT64_MIN, INT64_MAX, INT64_C(1) << 32 };
+    return (uint64_t)some[below(sizeof some / sizeof *some)];
+}
+
 static uint64_t any_flag(void)
 {
     uint64_t n = below(8);
@@ -85,7 +99,7 @@ static uint64_t drawn(char column)
     case 'P': return pattern(below(4) ? between(12, 20) : between(0, 40));
     case 'u': return pattern(between(0, 1));
     case 'v': return pattern(between(-1, 1));
-    case 'a': return any_whole(4);
+    case 'a': return any_alarm();
     case 'm': return below(4) ? 1 : any_whole(7);
     case 's': return below(4) ? 0 : any_whole(3);
     default: return any_flag();
@@ -125,7 +139,7 @@ static uint64_t next_time(int wild)
     return pattern(clock_time);
 }
 
-/* Columns are often as they were; steady holds what a row goes on from. wild: numbers of any size too, which a loop or a window may
+/* Columns are often as they were; steady holds what a row goes on from, an odd number or alarm is of one row alone. wild: numbers of any size too, which a loop or a window may
  * never forget. */
 static void next_row(int wild)
 {
@@ -138,4 +152,6 @@ static void next_row(int wild)
     row[0] = next_time(wild);
     if (odd > 0 && is_float(kind->row[odd]) && below(32) == 0)
         row[odd] = wild && below(2) ? any_finite() : below(2) ? not_finite() : tiny();
+    if (kind->row[odd] == 'a' && below(32) == 0)
+        row[odd] = wide_alarm();
 }

@@ -63,6 +63,7 @@ CALL(relief_row, struct woldgrater_relief_given,
 CALL(relief_signals, struct woldgrater_relief_shown,
      (const double *t, const double *i, struct woldgrater_relief_state state, struct woldgrater_relief_row row),
      (times, integrals, relief_state, relief_row))
+CALL(relief_alarm, struct woldgrater_alarm_given, (struct woldgrater_relief_state state, size_t fan), (relief_state, 3))
 CALL(freeze_line, struct woldgrater_line_given, (struct woldgrater_freeze_row row, uint8_t *to, size_t len),
      (freeze_row, out, WOLDGRATER_FREEZE_LINE))
 CALL(econ_line, struct woldgrater_line_given, (struct woldgrater_econ_row row, uint8_t *to, size_t len),
@@ -94,8 +95,9 @@ static struct call {
 } calls[] = {
     NAMED(freeze_start, FREEZE), NAMED(freeze_row, FREEZE), NAMED(freeze_signals, FREEZE), NAMED(econ_start, ECON),
     NAMED(econ_row, ECON),       NAMED(econ_signals, ECON), NAMED(relief_start, RELIEF),   NAMED(relief_row, RELIEF),
-    NAMED(relief_signals, RELIEF), NAMED(freeze_line, LINE), NAMED(econ_line, LINE),       NAMED(relief_line, LINE),
-    NAMED(play, PLAY),           NAMED(start, START_FINISH), NAMED(feed, FEED),            NAMED(finish, START_FINISH),
+    NAMED(relief_signals, RELIEF), NAMED(relief_alarm, RELIEF), NAMED(freeze_line, LINE),  NAMED(econ_line, LINE),
+    NAMED(relief_line, LINE),    NAMED(play, PLAY),         NAMED(start, START_FINISH),    NAMED(feed, FEED),
+    NAMED(finish, START_FINISH),
 };
 
 /* ---- The painted stack */
@@ -188,6 +190,7 @@ static void try_relief(size_t n)
     relief_row = row;
     measure(run_relief_signals);
     measure(run_relief_row);
+    measure(run_relief_alarm);
     measure(run_relief_line);
     relief_state = given_relief_row.state;
 }

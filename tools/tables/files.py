@@ -187,13 +187,16 @@ def read_answers(kind, data, name):
     return answers
 
 
-def status_of(row, last):
+def status_of(kind, row, last):
     """The status of a row after an accepted one of the time `last`, wherever the window has room."""
     if not all(map(math.isfinite, row)):
         return Status.NOT_FINITE
     if math.copysign(1.0, row[0]) < 0:
         return Status.SIGNED_TIME
-    return Status.EARLIER if last is not None and row[0] < last else Status.ACCEPTED
+    if last is not None and row[0] < last:
+        return Status.EARLIER
+    alarms = [value for value, (name, _) in zip(row, ROWS[kind]) if name.startswith('alarm_')]
+    return Status.ACCEPTED if all(-128 <= alarm <= 127 for alarm in alarms) else Status.ALARM_OUT_OF_RANGE
 
 
 def played(rows_data, rows_name, answers_data, answers_name, wanted=None):
@@ -206,7 +209,7 @@ def played(rows_data, rows_name, answers_data, answers_name, wanted=None):
         raise Refused(answers_name, [f'{len(answers)} answers to the {len(rows)} rows of {rows_name}'])
     faults, last = [], None
     for line, (row, (status, _)) in enumerate(zip(rows, answers), 1):
-        due = Status.BADLY_FORMED if row is None else status_of(row, last)
+        due = Status.BADLY_FORMED if row is None else status_of(kind, row, last)
         if status != due and not (status == Status.WINDOW_FULL and due == Status.ACCEPTED):
             faults.append(f'line {line}: status {status}, but line {line + 1} of {rows_name} gets {due}')
         if due == status == Status.ACCEPTED:

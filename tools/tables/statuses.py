@@ -23,6 +23,7 @@ class Status(enum.IntEnum):
     NOT_FINITE = 1, KINDS, 'a number, the time included, is a NaN or infinite'
     SIGNED_TIME = 2, KINDS, "the time's sign bit is set, as in -0.0"
     EARLIER = 3, KINDS, 'the time is below that of the last accepted row; an equal time is taken'
+    ALARM_OUT_OF_RANGE = 11, ['relief'], 'an alarm is below -128 or above 127'
     WINDOW_FULL = 4, ['relief'], 'the window, with old points dropped, holds 512, and the last is of another time'
     NO_ROOM = 10, [], 'what is left of the buffer is shorter than the line and its newline'
     ACCEPTED = 0, KINDS, 'the row is accepted, and its commands follow'

@@ -4,7 +4,7 @@ import os
 import re
 
 DECLARED = re.compile(r'(?m)^((?://.*\n)*)(?:#\[repr\(C\)\]\n)?pub (struct|enum) (\w+) \{\n((?:    .*\n)*)\}')
-PLAIN = {'f64': '0.0', 'u64': '0', 'usize': '0', 'i64': '0'}
+PLAIN = {'f64': '0.0', 'u64': '0', 'usize': '0', 'i64': '0', 'i8': '0'}
 
 
 class Type:
@@ -29,6 +29,12 @@ def array(kind):
     """The element and the length of an array's type; None for any other."""
     found = re.fullmatch(r'\[(\w+); (\d+)\]', kind)
     return (found[1], int(found[2])) if found else None
+
+
+def unused(kind):
+    """How many bytes an array of signed bytes leaves unused in its last word."""
+    found = array(kind)
+    return -found[1] % 8 if found and found[0] == 'i8' else 0
 
 
 def element(kind):

@@ -3,7 +3,7 @@
 import re
 
 from . import declared
-from .names import MADE, Names, order, quoted
+from .names import MADE, Names, order, quoted, word_fields
 
 
 class Definitions(Names):
@@ -34,7 +34,7 @@ class Definitions(Names):
             if kind.variants:
                 body += self.of_enum_spec(kind)
             else:
-                body += [f'{kind.to} s = record {{'] + [f'  {quoted(name)} = {self.spec_call(part, "of", f"s .{quoted(name)}")};' for name, part in kind.fields] + ['}']
+                body += [f'{kind.to} s = record {{'] + [f'  {quoted(name)} = {self.word_of(kind, name, part)};' for name, part in word_fields(kind)] + ['}']
         if 'value' in asked:
             body += ['', f'-- the `{kind.name}` that words stand for' + (f'; a number that no variant has is read as `{kind.variants[-1][0]}`' if kind.variants else ''),
                      f'unfoldable pub {kind.back} : {kind.words} → {kind.name}']
@@ -44,12 +44,16 @@ class Definitions(Names):
                 body += [f'{kind.back} w = record {{'] + [f'  {quoted(name)} = {self.spec_call(part, "value", f"w .{quoted(name)}")};' for name, part in kind.fields] + ['}']
         if 'zero' in asked:
             body += ['', '-- all words 0', f'unfoldable pub {kind.zero} : {kind.words}', f'{kind.zero} = record {{']
-            body += [f'  {quoted(name)} = {self.zero_spec(part)};' for name, part in kind.fields] + ['}']
+            body += [f'  {quoted(name)} = {self.zero_spec(part)};' for name, part in word_fields(kind)] + ['}']
         text = '\n'.join(body)
         for word, line in (('plusZero', 'use Rattle.reals.specs.Constants.{plusZero}'), ('replicate', 'use lib.ListN.{replicate}'), ('pos', 'use lib.IntN.{pos}')):
             if re.search(rf'\b{word}\b', text):
                 found.add(line)
         return f'-- `{kind.name}` of {kind.crate} as words. {MADE}\n' + '\n'.join(sorted(found, key=order)) + '\n' + text + '\n'
+
+    def word_of(self, kind, name, part):
+        """A field of the words of s: that of s made over, or 0 where it only fills a word."""
+        return self.spec_call(part, 'of', f's .{quoted(name)}') if (name, part) in kind.fields else self.zero_spec(part)
 
     def of_enum_spec(self, kind):
         lines = []

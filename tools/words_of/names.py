@@ -16,6 +16,15 @@ def held(kind):
     return [('variant', 'u64')] + [(declared.snake(name), part) for name, part in kind.variants if part]
 
 
+def word_fields(kind):
+    """The fields of a struct's words: its own, and after signed bytes those that fill their word, so that no byte of a struct is left open."""
+    fields = []
+    for name, part in kind.fields:
+        spare = declared.unused(part)
+        fields += [(name, part)] + ([(f'{name}_unused', f'[i8; {spare}]')] if spare else [])
+    return fields
+
+
 def order(line):
     """The library's names before the repository's, and of these the declared types first."""
     return ('Rattle·' in line, '.declared.' not in line, line)
@@ -91,7 +100,7 @@ class Names:
         return f'[{text}; {found[1]}]' if found else text
 
     def zero_literal(self, kind):
-        fields = held(kind) if kind.variants else kind.fields
+        fields = held(kind) if kind.variants else word_fields(kind)
         return kind.words + ' { ' + ', '.join(f'{name}: {self.zero_of(part)}' for name, part in fields) + ' }'
 
     def zero_spec(self, part):
@@ -100,7 +109,7 @@ class Names:
         one = declared.element(part)
         if one == 'f64':
             text = 'plusZero'
-        elif one == 'i64':
+        elif one in ('i64', 'i8'):
             text = 'pos 0'
         elif one in declared.PLAIN or one == 'bool':
             text = '0'

@@ -1,7 +1,9 @@
 """The proofs that the functions of words meet their definitions, and that words stand for what they were made of."""
 
+import re
+
 from . import declared
-from .names import COUNTS, MADE, Names, order, quoted
+from .names import COUNTS, MADE, Names, order, quoted, word_fields
 
 
 def chain(path, steps):
@@ -47,6 +49,8 @@ class Proofs(Names):
         more = ['use borrow.Author.Needs.{needs}'] if calls else [] if steps else ['use mathlib.Core.Path.{refl}']
         if len(calls) < len(steps):
             more = ['use mir.Facts.{toZ-ofZ}', 'use mir.Syntax.{w64}'] + more
+        if what == 'of' and word_fields(kind) != kind.fields:
+            more = ['use lib.IntN.{pos}', 'use lib.ListN.{replicate}'] + more
         lines, spec, name = self.head(kind, [kind.words, what], what, about, more)
         lines += ['returns : tie.Need-returns', f'unfolding {spec}']
         facts = self.facts(kind, what, steps)
@@ -55,17 +59,30 @@ class Proofs(Names):
         elif len(facts) <= 9:
             one = f'returns c = rw ({", ".join(fact for _, fact in facts)})'
             lines += [one] if len(one) <= 160 else ['returns c =', '    rw ('] + [f'      {fact},' for _, fact in facts] + ['    )']
-        elif len(facts) == len(kind.fields):
+        else:
+            made = [(field, self.field_fact(kind, what, steps, field, part, dict(facts))) for field, part in (word_fields(kind) if what == 'of' else kind.fields)]
             lines.append('returns c =')
-            deepest = (len(steps) - 1) // 5
+            deepest = max(int(back) for back in re.findall(r'\bc(\d+)', ' '.join(fact for _, fact in made)))
             lines += [f'    let c{at} = {chain("c" if at == 1 else f"c{at - 1}", 5)} in' for at in range(1, deepest + 1)]
             lines.append('    λ i. record {')
-            lines += [f'      {quoted(field)} = {shorter(fact)} i;' for field, fact in facts]
+            lines += [f'      {quoted(field)} = {fact};' for field, fact in made]
             lines.append('    }')
-        else:
-            raise SystemExit(f'tools/words: {kind.name} has more than nine fields that are made over, and others')
         lines += ['', f'pub {name}-spec : {{M : Type 1}} → statement M', f'{name}-spec = ' + needs(['(λ c κs. search needs)'] * len(calls), ['returns'])]
         return '\n'.join(lines) + '\n'
+
+    def field_fact(self, kind, what, steps, field, part, facts):
+        """One field along i: by its fact, or as it stands where it goes over as it is or only fills a word."""
+        if field in facts:
+            return shorter(facts[field]) + ' i'
+        if (field, part) in kind.fields:
+            return shorter(self.start(kind, what, steps) + f' .{quoted(field)}')
+        return self.zero_spec(part)
+
+    def start(self, kind, what, steps):
+        """The argument of a function, as its last step sees it: the fields that are copied first are steps too, but for enums."""
+        owner = 'value' if what == 'of' else 'self'
+        fields = [(name, part) for name, part in kind.fields if not (what == 'of' and part in self.types and self.types[part].variants)]
+        return chain('c', len(steps) + len(self.copies(owner, fields))) + f' .args .{owner}'
 
     def steps(self, kind, what):
         """The steps of a function's proof, each with its field: a call for a field that is made over, and `struct-told` where signed numbers are
@@ -86,7 +103,7 @@ class Proofs(Names):
         for at, (call, field) in enumerate(steps):
             counted[call] = counted.get(call, 0) + 1
             names[field] = f'{chain("c", len(steps) - 1 - at)} .{several(call, counted[call])}'
-        start = chain('c', len(steps)) + (' .args .value' if what == 'of' else ' .args .self')
+        start = self.start(kind, what, steps)
         for at, (field, part) in enumerate(kind.fields):
             if part == 'i64' and what != 'zero':
                 told = names.get(field, told)

@@ -14,7 +14,7 @@ SEQUENCES = [
     ('Economizer', ['EconomizerState', 'EconomizerRow', 'EconomizerCommands', 'DamperLimits', 'EnableSignals', 'EnableLimits', 'EconomizerSignals',
                     'EconomizerGiven', 'EconomizerShown']),
     ('Relief fan group', ['ReliefWords', 'ReliefRow', 'ReliefCommands', 'PressureControl', 'DamperEnable', 'StageUp', 'StageDown', 'ReliefSignals',
-                          'ReliefLeft', 'ReliefGiven', 'ReliefShown']),
+                          'ReliefLeft', 'ReliefGiven', 'ReliefShown', 'AlarmGiven']),
     ('The line of a row', ['LineGiven']),
     ('Row files', ['State', 'Fed']),
 ]
@@ -49,7 +49,7 @@ class Records:
         """How many words of 8 bytes a field has."""
         found = declared.array(part)
         if found:
-            return found[1] * self.words(found[0])
+            return -(-found[1] // 8) if found[0] == 'i8' else found[1] * self.words(found[0])
         if part in C:
             return 1
         kind = self.types[self.meant(part)]

@@ -1,7 +1,7 @@
 """The source of the words of a type: the struct, and the functions to and fro."""
 
 from . import declared
-from .names import MADE, Names, held
+from .names import MADE, Names, held, word_fields
 
 
 class Sources(Names):
@@ -27,7 +27,7 @@ class Sources(Names):
         lines.append(f'ghost use Rattle.{self.crate}.specs.{kind.page}.{{{", ".join(names)}}};')
         lines += [f'use {path};' for path in self.uses(kind, asked)]
         lines += ['', '#[repr(C)]', f'pub struct {kind.words} {{']
-        lines += [f'    pub {name}: {self.words_type(part)},' for name, part in (held(kind) if kind.variants else kind.fields)]
+        lines += [f'    pub {name}: {self.words_type(part)},' for name, part in (held(kind) if kind.variants else word_fields(kind))]
         lines += ['}', '', f'impl {kind.words} {{']
         bodies = []
         if 'of' in asked:
@@ -47,7 +47,10 @@ class Sources(Names):
 
     def fields_made(self, owner, kind, what):
         lines = []
-        for name, part in kind.fields:
+        for name, part in word_fields(kind) if what == 'of' else kind.fields:
+            if (name, part) not in kind.fields:
+                lines.append(f'            {name}: {self.zero_of(part)},')
+                continue
             call = self.call(part, what)
             copied = declared.array(part) or declared.element(part) not in (*declared.PLAIN, 'bool')
             text = name if copied else f'{owner}.{name}'
@@ -68,7 +71,7 @@ class Sources(Names):
 
     def zero_struct(self, kind):
         lines = ['    pub fn zero() -> Self', f'        ensures {{ λ r. ⌜ r ≡ {kind.zero} ⌝ }}', '    {', f'        {kind.words} {{']
-        for name, part in kind.fields:
+        for name, part in word_fields(kind):
             one = declared.element(part)
             text = f'{self.types[one].words}::zero()' if one in self.types and not declared.array(part) else self.zero_of(part)
             lines.append(f'            {name}: {text},')

@@ -19,11 +19,12 @@ use Rattle.logical.specs.TrueDelayOnInit.{trueDelayOnInitNew, trueDelayOnInitOu
 use Rattle.logical.proofs.Differ.{delays-differ-on-row-0}
 use Rattle.refusals.specs.declared.Verdict.{Verdict}
 use Rattle.refusals.specs.declared.Verdict.the-variants.{Accepted, Refused}
-use Rattle.refusals.specs.Refusals.{judge}
+use Rattle.refusals.specs.Refusals.{verdictOrRefused, judge}
 use Rattle.past.specs.Whole.{Taken}
 use Rattle.moving_average.specs.Window.{dropOld}
 use Rattle.moving_average.specs.State.{held, movingAverageNew, movingAverageIsFull}
 use Rattle.moving_average.proofs.FirstRows.{first-mean}
+use Rattle.relief_fans.specs.Alarms.{fitsByte, alarmsFit}
 use Rattle.relief_fans.specs.Commands.{level, isLevel2, alarmOffGuard, damper}
 use Rattle.relief_fans.specs.Blocks.{delayAt}
 use Rattle.relief_fan_group.specs.declared.types.ReliefRow.{ReliefRow}
@@ -32,12 +33,12 @@ use Rattle.relief_fan_group.specs.declared.types.ReliefCommands.{ReliefCommands
 use Rattle.relief_fan_group.specs.declared.types.ReliefAnswer.{ReliefAnswer}
 use Rattle.relief_fan_group.specs.declared.types.ReliefAnswer.the-variants as Answer
 use Rattle.relief_fan_group.specs.Constants.{proofTime}
-use Rattle.relief_fan_group.specs.Verdict.{numbersFinite, orWindowFull, reliefVerdict}
+use Rattle.relief_fan_group.specs.Verdict.{numbersFinite, afterJudged, reliefVerdict}
 use Rattle.relief_fan_group.specs.Signals.{pressureControl, reliefSignals}
 use Rattle.relief_fan_group.specs.Commands.{reliefCommands}
 use Rattle.relief_fan_group.specs.Step.{reliefBlocks, reliefFresh, signalsAt, stepBy, reliefRow}
-use Rattle.relief_fan_group.specs.Alarms.{speedsOf, dampersOf, withAlarm}
-use Rattle.relief_fan_group.proofs.Alarms.{alarm-2-shuts, speeds-whatever-the-alarm, signals-whatever-the-alarm, next-whatever-the-alarm}
+use Rattle.relief_fan_group.specs.Alarms.{speedsOf, dampersOf, withAlarm, stateRemembering}
+use Rattle.relief_fan_group.proofs.Alarms.{alarm-2-shuts, speeds-whatever-the-alarm, signals-whatever-the-alarm, verdict-by-fit, next-whatever-the-alarm}
 use Rattle.cases.specs.Words as Words
 use Rattle.cases.specs.Relief.{told, without3, AlarmGuard, Waits}
 
@@ -50,19 +51,20 @@ sign-off : (b : Bool) → T (not b) → b ≡ false
 sign-off true h = absurd h
 sign-off false h = refl
 
--- a fresh window is not full, and a first row of finite numbers whose time has its sign bit clear is accepted
+-- a fresh window is not full, and a first row of finite numbers whose time has its sign bit clear and whose alarms fit is accepted
 empty-not-full : (t : Float) → movingAverageIsFull movingAverageNew t ≡ false
 unfolding movingAverageIsFull movingAverageNew held zipWith dropOld
 empty-not-full t = refl
 
-module _ (row : ReliefRow) (a : T (isTime (row .time))) (b : T (finite (row .pressure))) where
+module _ (row : ReliefRow) (a : T (isTime (row .time))) (b : T (finite (row .pressure))) (f : T (alarmsFit (row .alarm))) where
   first-taken : reliefVerdict reliefBlocks row (movingAverageIsFull movingAverageNew (row .time)) ≡ Accepted
-  unfolding reliefVerdict orWindowFull judge numbersFinite seenAbove reliefBlocks
+  unfolding reliefVerdict afterJudged verdictOrRefused judge numbersFinite seenAbove reliefBlocks
   first-taken =
       rw (
         empty-not-full (row .time),
         is-true (finite (row .time)) (and-l (finite (row .time)) (not (isSignNegative (row .time))) a),
         is-true (finite (row .pressure)) b,
+        is-true (alarmsFit (row .alarm)) f,
         sign-off (isSignNegative (row .time)) (and-r (finite (row .time)) (not (isSignNegative (row .time))) a),
       )
       refl
@@ -95,15 +97,29 @@ not-2 (pos n) = go (eqb n 3) refl
     go false e = refl
 not-2 (negsuc n) = refl
 
--- so without alarms 3 each damper is the same
-levels : (alarm : List ℤ) (i : ℕ) → isLevel2 (level (map without3 alarm) i) ≡ isLevel2 (level alarm i)
-levels [] i = refl
-levels (z ∷ alarm) zero = not-2 z
-levels (z ∷ alarm) (suc i) = levels alarm i
+-- and 3 fits its byte as 0 does
+fits-3 : (z : ℤ) → fitsByte (without3 z) ≡ fitsByte z
+unfolding fitsByte
+fits-3 (pos n) = go (eqb n 3) refl
+  where
+    go : (b : Bool) → eqb n 3 ≡ b → fitsByte (pos (cond b 0 n)) ≡ fitsByte (pos n)
+    go true e = rw (eqb→eq n 3 (rw e tt)) refl
+    go false e = refl
+fits-3 (negsuc n) = refl
+
+-- so without alarms 3 each damper is the same, and as many alarms fit
+levels : (f : ℤ → Bool) → ((z : ℤ) → f (without3 z) ≡ f z) → (alarm : List ℤ) (i : ℕ) → f (level (map without3 alarm) i) ≡ f (level alarm i)
+levels f e [] i = refl
+levels f e (z ∷ alarm) zero = e z
+levels f e (z ∷ alarm) (suc i) = levels f e alarm i
 
 dampers : (opened : List Bool) (alarm : List ℤ) (proof : List Bool) → damper opened (map without3 alarm) proof ≡ damper opened alarm proof
 unfolding damper alarmOffGuard
-dampers opened alarm proof = rw (levels alarm 0, levels alarm 1, levels alarm 2, levels alarm 3) refl
+dampers opened alarm proof = let same = levels isLevel2 not-2 alarm in rw (same 0, same 1, same 2, same 3) refl
+
+fits-same : (alarm : List ℤ) → alarmsFit (map without3 alarm) ≡ alarmsFit alarm
+unfolding alarmsFit
+fits-same alarm = let same = levels fitsByte fits-3 alarm in rw (same 0, same 1, same 2, same 3) refl
 
 -- the commands of an answer, if it holds any
 commandsOr : ReliefCommands → ReliefAnswer → ReliefCommands
@@ -126,21 +142,34 @@ module _ (state : ReliefState) (row : ReliefRow) where
   unfolding reliefCommands
   commands-same = rw (dampers _ (row .alarm) (row .proof)) refl
 
-  -- so the step does not depend on alarms 3, and no speed on any
-  without-3 : (v : Verdict) → stepBy v state (withAlarm row (map without3 (row .alarm))) ≡ stepBy v state row
+  -- so the answer does not depend on alarms 3, the state in nothing but what it remembers, and no speed on any
+  answer-without-3 : (v : Verdict) → stepBy v state (withAlarm row (map without3 (row .alarm))) .answer ≡ stepBy v state row .answer
   unfolding stepBy
-  without-3 Accepted = rw (signals-same (map without3 (row .alarm)), commands-same, next-whatever-the-alarm row (signalsAt state row) (map without3 (row .alarm)) (state .blocks)) refl
-  without-3 (Refused r) = refl
+  answer-without-3 Accepted = rw (signals-same (map without3 (row .alarm)), commands-same) refl
+  answer-without-3 (Refused r) = refl
+
+  state-without-3 : (alarms : List ℤ) (v : Verdict)
+      → stateRemembering alarms (stepBy v state (withAlarm row (map without3 (row .alarm))) .state) ≡ stateRemembering alarms (stepBy v state row .state)
+  unfolding stepBy
+  state-without-3 alarms Accepted = rw (signals-same (map without3 (row .alarm)), next-whatever-the-alarm row (signalsAt state row) (map without3 (row .alarm)) (state .blocks)) refl
+  state-without-3 alarms (Refused r) = refl
 
   speeds : (alarm : List ℤ) (v : Verdict) → told speedsOf (stepBy v state (withAlarm row alarm) .answer) ≡ told speedsOf (stepBy v state row .answer)
   unfolding stepBy
   speeds alarm Accepted = rw (signals-same alarm) (ap Taken (speeds-whatever-the-alarm row (signalsAt state row) alarm))
   speeds alarm (Refused r) = refl
 
+  abbrev full : Bool
+  full = movingAverageIsFull (state .window) (row .time)
+
+  verdict-same : (alarm : List ℤ) → alarmsFit alarm ≡ alarmsFit (row .alarm) → reliefVerdict (state .blocks) (withAlarm row alarm) full ≡ reliefVerdict (state .blocks) row full
+  verdict-same alarm e = verdict-by-fit row (signalsAt state row) alarm e (state .blocks) full
+
   pub alarm-guard : AlarmGuard state row
-  unfolding reliefRow reliefVerdict numbersFinite
+  unfolding reliefRow
   alarm-guard = record {
     alarm2 = λ c e fan l a p. ap (λ (c : ReliefCommands). real (dampersOf c) fan) (sym (commands-are _ c e)) ∙ alarm-2-shuts row (signalsAt state row) fan l a p ∙ zero-is;
-    alarm3 = without-3 _;
-    speed = λ alarm. speeds alarm _;
+    alarm3 = rw (verdict-same (map without3 (row .alarm)) (fits-same (row .alarm))) (answer-without-3 (reliefVerdict (state .blocks) row full));
+    alarm3State = λ alarms. rw (verdict-same (map without3 (row .alarm)) (fits-same (row .alarm))) (state-without-3 alarms (reliefVerdict (state .blocks) row full));
+    speed = λ alarm e. rw (verdict-same alarm e) (speeds alarm (reliefVerdict (state .blocks) row full));
   }

@@ -8,6 +8,7 @@ use lib.Ieee.Scale.{finite}
 use Rattle.reals.specs.Sign.{isTime}
 use Rattle.past.specs.Whole.{Taken}
 use Rattle.relief_fans.specs.Blocks.{delayAt}
+use Rattle.relief_fans.specs.Alarms.{alarmsFit}
 use Rattle.relief_fan_group.specs.declared.types.ReliefRow.{ReliefRow}
 use Rattle.relief_fan_group.specs.declared.types.ReliefState.{ReliefState}
 use Rattle.relief_fan_group.specs.Step.{reliefFresh, reliefRow}
@@ -50,7 +51,8 @@ pub record Cases : Type 0 where
   pub f6 : (o : ℕ → FreezeOthers)
       → stages o (at 0 27600 ∷ at 300 27600 ∷ at 360 27800 ∷ at 3540 27600 ∷ at 3900 27600 ∷ []) ≡ taken (0 ∷ 2 ∷ 2 ∷ 2 ∷ 1 ∷ [])
   -- R1 the first row's mean is 0 at any pressure.
-  pub r1 : (row : ReliefRow) → T (isTime (row .time)) → T (finite (row .pressure)) → told (λ c. c .«averaged_pressure») (reliefRow reliefFresh row .answer) ≡ Taken zero
+  pub r1 : (row : ReliefRow) → T (isTime (row .time)) → T (finite (row .pressure)) → T (alarmsFit (row .alarm))
+      → told (λ c. c .«averaged_pressure») (reliefRow reliefFresh row .answer) ≡ Taken zero
   -- R3 an unproven fan at alarm 2 has damper 0; alarm 3 does nothing. The guard does not touch its speed.
   pub r3 : (state : ReliefState) (row : ReliefRow) → AlarmGuard state row
   -- R4 its `TrueDelayState` waits 2 s on row 0 too.

@@ -1,6 +1,4 @@
 -- Rows that are not refused by 1, 2 or 3 have times in order. Assumes nothing.
-use Prim.Native.Nat.{ℕ}
-use native.Mathlib.Omega.{arith}
 use mathlib.Core.Path.{_≡_, refl}
 use mathlib.Core.Bool.{Bool, true, false, not, _&&_, cond}
 use mathlib.Core.List.{List, [], _∷_}
@@ -11,10 +9,10 @@ use lib.Ieee.Scale.{finite}
 use Rattle.reals.specs.Sign.{isTime, isSignNegative}
 use Rattle.reals.specs.Seen.{seenAbove}
 use Rattle.reals.proofs.FloatOrder.{not-lt→le}
-use Rattle.refusals.specs.declared.Refusal.{Refusal}
 use Rattle.refusals.specs.declared.Refusal.the-variants.{NotFinite, NegativeTime, FallingTime}
 use Rattle.refusals.specs.declared.Verdict.the-variants.{Accepted, Refused}
 use Rattle.refusals.specs.Refusals.{judge}
+use Rattle.refusals.proofs.Accepting.{refused-is-not-accepted}
 use Rattle.past.specs.Acceptance.{lastTime}
 use Rattle.past.specs.Stepped.{notBefore, inOrder}
 use Rattle.past.proofs.Stepped.{time-here}
@@ -30,9 +28,6 @@ unfolding isNan
 time-number nan h = absurd h
 time-number (inf s) h = refl
 time-number (fin s m e) h = refl
-
-refused-is-not-accepted : (r : Refusal) → Refused r ≡ Accepted → ⊥
-refused-is-not-accepted r e = let z : _≡_ {A = ℕ} 0 1 = cc in omega arith
 
 -- what an accepted row's tests were
 judged : (a b c : Bool) → cond (not a) (Refused NotFinite) (cond b (Refused NegativeTime) (cond c (Refused FallingTime) Accepted)) ≡ Accepted → T a × (b ≡ false) × (c ≡ false)

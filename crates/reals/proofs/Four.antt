@@ -1,5 +1,5 @@
--- Loops over the four fans: an array that is filled from the front, or worked over in place, one store a turn, and a value that takes one step a
--- turn. Assumes nothing.
+-- Lists of four by index, and loops over the four fans: an array that is filled from the front, or worked over in place, one store a turn, and a value that
+-- takes one step a turn. Assumes nothing.
 use mathlib.Core.Path.{_≡_, refl, _∙_}
 use mathlib.Core.List.{List, [], _∷_}
 use Prim.Native.Nat.{ℕ, zero, suc, _+_, _≤_, _<_}
@@ -9,6 +9,14 @@ use lib.ListN.{set, getD, length}
 use Rattle.reals.specs.Four.{each4, fold4}
 
 module _ {A : Type 0} where
+  -- a list that is built by index, read by index
+  pub at-each : (f : ℕ → A) (d : A) (i : ℕ) → i < 4 → getD (each4 f) i d ≡ f i
+  at-each f d zero l = refl
+  at-each f d (suc zero) l = refl
+  at-each f d (suc (suc zero)) l = refl
+  at-each f d (suc (suc (suc zero))) l = refl
+  at-each f d (suc (suc (suc (suc i)))) l = absurd (omega arith)
+
   -- o with its first n elements set to f 0, f 1, ..
   abbrev pub filled : (ℕ → A) → List A → ℕ → List A
   filled f o zero = o

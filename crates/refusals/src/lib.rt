@@ -1,7 +1,7 @@
-// What a row is refused for (document 01, 'What each row refuses'; document 02, job 8, for a row that is written), one enum for all, and the three
-// refusals that all sequences share.
+// What a row is refused for (document 01, 'What each row refuses'; document 02, job 10, for alarms, and job 8, for a row that is written), one enum for all,
+// the three refusals that all sequences share, and those that are tried after them.
 ghost use mathlib.Core.Path.{_≡_};
-ghost use Rattle.refusals.specs.Refusals.{refusalNumber, judge};
+ghost use Rattle.refusals.specs.Refusals.{refusalNumber, verdictOrRefused, judge};
 use reals::seen::Seen;
 use reals::sign::is_sign_negative;
 
@@ -9,6 +9,7 @@ pub enum Refusal {
     NotFinite,
     NegativeTime,
     FallingTime,
+    AlarmOutOfRange,
     WindowFull,
     NoRoom,
 }
@@ -27,8 +28,27 @@ impl Refusal {
             Refusal::NotFinite => 1,
             Refusal::NegativeTime => 2,
             Refusal::FallingTime => 3,
+            Refusal::AlarmOutOfRange => 11,
             Refusal::WindowFull => 4,
             Refusal::NoRoom => 10,
+        }
+    }
+}
+
+impl Verdict {
+    // The verdict with one refusal more, tried after those before it.
+    pub fn or_refused(self, fits: bool, refusal: Refusal) -> Verdict
+        ensures { λ r. ⌜ r ≡ verdictOrRefused self fits refusal ⌝ }
+    {
+        match self {
+            Verdict::Accepted => {
+                if fits {
+                    Verdict::Refused(refusal)
+                } else {
+                    Verdict::Accepted
+                }
+            }
+            Verdict::Refused(first) => Verdict::Refused(first),
         }
     }
 }

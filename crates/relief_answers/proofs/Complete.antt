@@ -7,6 +7,7 @@ use mathlib.Core.List.{List, [], _∷_}
 use lib.Dec.{T, leb, leb→le, nleb→lt}
 use lib.ListN.{drop}
 use Rattle.reals.specs.Four.{flag}
+use Rattle.reals.proofs.Four.{at-each}
 use Rattle.reals.proofs.Truth.{holds, table1}
 use Rattle.past.specs.Stepped.{inOrder}
 use Rattle.relief_fan_group.specs.declared.types.ReliefRow.{ReliefRow}
@@ -16,7 +17,7 @@ use Rattle.relief_fan_group.proofs.Blocks.{before}
 use Rattle.relief_answers.specs.NextFan.{nextToStart, nextToStop, fansAfterUp, fansAfterDown, offAfterDown}
 use Rattle.relief_answers.specs.Latches.{taken, supplyHere, proofHere, proven, startWanted, stopWanted, startDue, stopDue, settledUp, settledDown, upLatch, downLatch}
 use Rattle.relief_answers.specs.Ends.{steady, Ends, endOf, lost, stands, served, cut-short, GoesOn, commanded, proved, taken-off}
-use Rattle.relief_answers.proofs.Flags.{no, at-each, some-fan}
+use Rattle.relief_answers.proofs.Flags.{no, some-fan}
 use Rattle.relief_answers.proofs.Runs.{run-goes-on}
 use Rattle.relief_answers.proofs.Latches.{taken-in-order}
 use Rattle.relief_answers.proofs.Directions.{Direction, latch, due, done, upward, downward, kept-on, sets, at-settled, due-is, served-at, fan-stays}
@@ -95,11 +96,11 @@ module _ (d : Direction) (i : ℕ) (b : i < 4) where
   -- the next fans are among those that the stage has on (off)
   up-wants : (s p : List Bool) → flag (nextToStart s p) i ≡ true → flag (fansAfterUp s p) i ≡ true
   unfolding fansAfterUp
-  up-wants s p e = at-each (λ i. flag p i || flag (nextToStart s p) i) i b ∙ rw e (table1 (λ a. a || true) (λ a. true) tt (flag p i))
+  up-wants s p e = at-each (λ i. flag p i || flag (nextToStart s p) i) false i b ∙ rw e (table1 (λ a. a || true) (λ a. true) tt (flag p i))
 
   down-wants : (s p : List Bool) → flag (nextToStop s p) i ≡ true → flag (offAfterDown s p) i ≡ true
   unfolding fansAfterDown
-  down-wants s p e = at-each (λ i. not (flag (fansAfterDown s p) i)) i b ∙ ap not (at-each (λ i. flag p i && not (flag (nextToStop s p) i)) i b) ∙ rw e (table1 (λ a. not (a && false)) (λ a. true) tt (flag p i))
+  down-wants s p e = at-each (λ i. not (flag (fansAfterDown s p) i)) false i b ∙ ap not (at-each (λ i. flag p i && not (flag (nextToStop s p) i)) false i b) ∙ rw e (table1 (λ a. not (a && false)) (λ a. true) tt (flag p i))
 
 -- ---- every pulse, for each fan: lost on its own row; standing; or, at the first settled row after it, served or cut short
 pub up-ends : (i : ℕ) → i < 4 → (k : ℕ) (l : List ReliefRow) → upPulse (drop k (taken l)) ≡ true

@@ -41,13 +41,6 @@ every-at (suc n) f e zero l = both-are (f 0) (every n (λ k. f (suc k))) e .0
 every-at (suc n) f e (suc i) l = every-at n (λ k. f (suc k)) (both-are (f 0) (every n (λ k. f (suc k))) e .1) i (omega arith)
 
 -- ---- four flags
-pub at-each : (g : ℕ → Bool) (i : ℕ) → i < 4 → flag (each4 g) i ≡ g i
-at-each g zero b = refl
-at-each g (suc zero) b = refl
-at-each g (suc (suc zero)) b = refl
-at-each g (suc (suc (suc zero))) b = refl
-at-each g (suc (suc (suc (suc i)))) b = absurd (omega arith)
-
 -- where one of the four is on, some fan is
 pub some-fan : (l : List Bool) (i : ℕ) → i < 4 → flag l i ≡ true → someFan l ≡ true
 some-fan l zero b e = rw e refl

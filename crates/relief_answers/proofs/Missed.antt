@@ -8,6 +8,7 @@ use mathlib.Core.List.{List, [], _∷_}
 use lib.Dec.{T}
 use lib.ListN.{drop}
 use Rattle.reals.specs.Four.{flag, each4}
+use Rattle.reals.proofs.Four.{at-each}
 use Rattle.refusals.specs.declared.Verdict.{Verdict}
 use Rattle.refusals.specs.declared.Verdict.the-variants.{Accepted, Refused}
 use Rattle.past.specs.Stepped.{inOrder}
@@ -18,7 +19,7 @@ use Rattle.relief_fan_group.specs.Reading.{Past, timeOfRow, upPulse, downPulse,
 use Rattle.relief_answers.specs.NextFan.{enabled, someFan, firstInOrder, nextToStart, nextToStop, fansAfterUp, fansAfterDown}
 use Rattle.relief_answers.specs.Latches.{taken, supplyHere, proofHere, proven, startWanted, stopWanted, startDue, stopDue, settledUp, settledDown, upLatch, downLatch, fansHere}
 use Rattle.relief_answers.specs.Ends.{alike, steady, startNamed, stopNamed}
-use Rattle.relief_answers.proofs.Flags.{no, not-not, at-each, no-fan, two, four}
+use Rattle.relief_answers.proofs.Flags.{no, not-not, no-fan, two, four}
 use Rattle.relief_answers.proofs.Runs.{run-true}
 use Rattle.relief_answers.proofs.NextFan.{up-only, down-only}
 use Rattle.relief_answers.proofs.Latches.{taken-in-order}
@@ -56,7 +57,7 @@ down-commanded i b l u e = ap (λ (f : List Bool). flag f i) (down-commands (tak
     go [] e = no e (unfold downward in latch-none downward)
     go (x ∷ h) e =
         let fans = fansAfterDown (x .supply) (x .proof) in
-        sym (ap not (at-each (λ j. not (flag fans j)) i b) ∙ not-not (flag fans i))
+        sym (ap not (at-each (λ j. not (flag fans j)) false i b) ∙ not-not (flag fans i))
 
 -- ---- served: at a pulse, with supplies and proofs unchanged for 2 s, the latch is on exactly if the table names a fan
 pub up-served : (l : List ReliefRow) → upPulse (taken l) ≡ true → steady (taken l) ≡ true
@@ -126,14 +127,14 @@ pub up-cut-short : (i : ℕ) → i < 4 → (l : List ReliefRow) → settledUp (t
 unfolding upward
 up-cut-short i b l c e =
     ap (λ (f : List Bool). flag f i) (none-commands (taken l) (off-where-settled upward (taken l) c) e)
-    ∙ at-each (flag (proofHere (taken l))) i b ∙ sym (at-settled upward (taken l) c i b)
+    ∙ at-each (flag (proofHere (taken l))) false i b ∙ sym (at-settled upward (taken l) c i b)
 
 pub down-cut-short : (i : ℕ) → i < 4 → (l : List ReliefRow) → settledDown (taken l) ≡ true → upLatch (taken l) ≡ false
     → flag (fansHere (taken l)) i ≡ not (stopDue i (taken l))
 unfolding downward
 down-cut-short i b l c e =
     ap (λ (f : List Bool). flag f i) (none-commands (taken l) e (off-where-settled downward (taken l) c))
-    ∙ at-each (flag (proofHere (taken l))) i b ∙ sym (ap not (at-settled downward (taken l) c i b) ∙ not-not (proven i (taken l)))
+    ∙ at-each (flag (proofHere (taken l))) false i b ∙ sym (ap not (at-settled downward (taken l) c i b) ∙ not-not (proven i (taken l)))
 
 -- ---- blocked: after a steady pulse that names a fan, while supplies and proofs stay as they are, the latch stays on and the fans commanded on stay those of that
 -- pulse, whatever the pressure and whatever pulses come
@@ -196,7 +197,7 @@ module _ (k : ℕ) (l : List ReliefRow) where
   proof-dropped i b u d a =
       let off = onward (λ h. (upLatch h ≡ false) × (downLatch h ≡ false)) (λ h. (upPulse h ≡ false) × (downPulse h ≡ false))
       (λ x h o w z. (stays-off upward x h (z .0) (w .0), stays-off downward x h (z .1) (w .1))) k (taken l) (taken-in-order l) (u, d) a in
-      ap (λ (f : List Bool). flag f i) (none-commands (taken l) (off .0) (off .1)) ∙ at-each (flag (proofHere (taken l))) i b
+      ap (λ (f : List Bool). flag f i) (none-commands (taken l) (off .0) (off .1)) ∙ at-each (flag (proofHere (taken l))) false i b
 
 -- ---- the fans commanded on, one by one
 module _ (h : Past) (i : ℕ) (b : i < 4) where
@@ -219,9 +220,9 @@ module _ (h : Past) (i : ℕ) (b : i < 4) where
 
       go : (u d : Bool) → flag (cond u up (cond d down (each4 (flag (proofHere h))))) i
           ≡ cond u (proven i h || starts) (cond d (proven i h && not stops) (proven i h))
-      go true d = unfold fansAfterUp in at-each (λ j. proven j h || flag (nextToStart (supplyHere h) (proofHere h)) j) i b
-      go false true = unfold fansAfterDown in at-each (λ j. proven j h && not (flag (nextToStop (supplyHere h) (proofHere h)) j)) i b
-      go false false = at-each (λ j. proven j h) i b
+      go true d = unfold fansAfterUp in at-each (λ j. proven j h || flag (nextToStart (supplyHere h) (proofHere h)) j) false i b
+      go false true = unfold fansAfterDown in at-each (λ j. proven j h && not (flag (nextToStop (supplyHere h) (proofHere h)) j)) false i b
+      go false false = at-each (λ j. proven j h) false i b
 
 -- a stage down is overruled: while the stage-up latch is on every proven fan is commanded on, whatever the stage-down latch is
 pub down-overruled : (i : ℕ) → i < 4 → (l : List ReliefRow) → upLatch (taken l) ≡ true → proven i (taken l) ≡ true

@@ -15,26 +15,27 @@ use Rattle.reals.specs.Switch.{switch}
 use Rattle.reals.proofs.FloatOrder.{lt-nan}
 use Rattle.reals.proofs.Between.{limit-of-nan}
 use Rattle.reals.proofs.Truth.{is-true, is-false, table1}
-use Rattle.refusals.specs.declared.Refusal.{Refusal}
 use Rattle.refusals.specs.declared.Refusal.the-variants.{NotFinite}
 use Rattle.refusals.specs.declared.Verdict.{Verdict}
 use Rattle.refusals.specs.declared.Verdict.the-variants.{Accepted, Refused}
 use Rattle.refusals.specs.Refusals.{judge}
+use Rattle.refusals.proofs.Accepting.{refused-is-not-accepted}
 use Rattle.past.specs.Acceptance.{verdictAfter, lastTime}
 use Rattle.past.specs.Turns.{values, pulse}
 use Rattle.past.specs.Stepped.{inOrder}
 use Rattle.past.specs.Whole.{accepted, nextBy}
 use Rattle.past.proofs.Laws.{since-step, since-none}
 use Rattle.past.proofs.Stepped.{finite-here}
-use Rattle.moving_average.specs.Past.{windowIsFull, movingAverageOf}
+use Rattle.moving_average.specs.Past.{movingAverageOf}
 use Rattle.moving_average.proofs.FirstRows.{first-mean}
 use Rattle.relief_fan_group.specs.declared.types.ReliefRow.{ReliefRow}
 use Rattle.relief_fan_group.specs.Constants.{minSpeed, stageUpLevel, hys}
-use Rattle.relief_fan_group.specs.Verdict.{numbersFinite, orWindowFull}
+use Rattle.relief_fan_group.specs.Verdict.{numbersFinite}
 use Rattle.relief_fan_group.specs.Signals.{pressureLoop}
 use Rattle.relief_fan_group.specs.Reading.{Past, timeOfRow, mean, loopOf, upRequest, downRequest, upPulse, downPulse, verdictOf}
 use Rattle.relief_fan_group.proofs.Pulses.{Way, request, request-here, request-before, none-on-row-0}
 use Rattle.relief_fan_group.proofs.Blocks.{upWay, downWay}
+use Rattle.relief_fan_group.proofs.Demand3.{accepted-judged}
 use Rattle.relief_answers.specs.Latches.{taken}
 use Rattle.relief_answers.proofs.Flags.{no}
 use Rattle.relief_answers.proofs.Latches.{taken-in-order}
@@ -44,18 +45,13 @@ abbrev allFinite : Past → Bool
 allFinite [] = true
 allFinite (x ∷ h) = numbersFinite x && allFinite h
 
-refused-is-not-accepted : (r : Refusal) → Refused r ≡ Accepted → ⊥
-refused-is-not-accepted r e = let z : _≡_ {A = ℕ} 0 1 = cc in omega arith
-
 accepted-finite : (x : ReliefRow) (h : Past) → verdictOf h x ≡ Accepted → T (numbersFinite x)
-unfolding verdictOf verdictAfter
-accepted-finite x h e = go (numbersFinite x) e
+unfolding verdictAfter
+accepted-finite x h e = go (numbersFinite x) (accepted-judged x h e)
   where
-    go : (b : Bool)
-        → orWindowFull (judge b (x .time) (lastTime timeOfRow h)) (windowIsFull (map timeOfRow h) (x .time)) ≡ Accepted
-        → T b
+    go : (b : Bool) → judge b (x .time) (lastTime timeOfRow h) ≡ Accepted → T b
     go true e = tt
-    go false e = unfold judge orWindowFull in absurd (refused-is-not-accepted NotFinite e)
+    go false e = unfold judge in absurd (refused-is-not-accepted NotFinite e)
 
 taken-finite : (l : List ReliefRow) → T (allFinite (taken l))
 unfolding accepted

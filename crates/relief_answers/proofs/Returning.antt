@@ -11,14 +11,16 @@ use Rattle.reals.specs.Order.{greater}
 use Rattle.reals.specs.Seen.{seenNever, seenElapsed, seenAbove}
 use Rattle.reals.specs.Sign.{isSignNegative}
 use Rattle.reals.specs.Switch.{switch}
-use Rattle.refusals.specs.Refusals.{judge}
+use Rattle.refusals.specs.Refusals.{verdictOrRefused, judge}
 use Rattle.past.specs.Acceptance.{verdictAfter}
 use Rattle.past.specs.Whole.{accepted}
 use Rattle.moving_average.specs.Window.{sameTime, dropOld, endsAt, store}
 use Rattle.moving_average.specs.Integral.{onLine, integralAfter, integralAt}
 use Rattle.moving_average.specs.State.{held, written, startTime, muNow, averagedTime, movingAverageNew, movingAverageOutput, movingAverageIsFull, movingAverageStored, movingAverageUpdate}
 use Rattle.moving_average.specs.Past.{from, differentBefore, different, windowIsFull, movingAverageOf}
-use Rattle.relief_fan_group.specs.Verdict.{numbersFinite, orWindowFull}
+use Rattle.relief_fans.specs.Alarms.{fitsByte, alarmsFit}
+use Rattle.relief_fans.specs.Flags.{allOf}
+use Rattle.relief_fan_group.specs.Verdict.{numbersFinite, afterJudged}
 use Rattle.relief_fan_group.specs.Reading.{mean, verdictOf}
 use Rattle.relief_answers.specs.Latches.{taken}
 use Rattle.relief_answers.specs.Sum.{pressureSum}
@@ -26,7 +28,7 @@ use Rattle.relief_answers.specs.Returning.{returning}
 
 -- its five rows are accepted
 returning-taken : taken returning ≡ returning
-unfolding accepted verdictOf verdictAfter orWindowFull judge numbersFinite seenAbove isSignNegative windowIsFull from differentBefore different lt le eq sub round ofBits
+unfolding accepted verdictOf verdictAfter afterJudged verdictOrRefused fitsByte alarmsFit allOf judge numbersFinite seenAbove isSignNegative windowIsFull from differentBefore different lt le eq sub round ofBits
 returning-taken = refl
 
 finite-sum : T (finite (pressureSum returning))

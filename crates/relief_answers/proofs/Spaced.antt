@@ -3,7 +3,7 @@ use Prim.Native.Nat.{ℕ, zero, suc, _+_, _-_, _*_, _/_, _^_, _≤_, _<_, suc-le
 use native.Mathlib.Nat.{le-refl, lt-of-not-le, mul-assoc, mul-right-comm, mul-pos, mul-le-mul-right, le-of-mul-le-mul-right}
 use native.Mathlib.Omega.{arith}
 use mathlib.Core.Path.{_≡_, refl, sym, ap, ap₂, _∙_}
-use mathlib.Core.Bool.{Bool, true, false, _&&_, cond}
+use mathlib.Core.Bool.{Bool, true, false, not, _&&_, cond}
 use mathlib.Core.List.{List, [], _∷_, map}
 use lib.IntN.{ℤ}
 use lib.Dec.{T, eqb, leb→le, ltb→lt, eqb→eq}
@@ -18,11 +18,13 @@ use Rattle.reals.proofs.Round.{coarse, in-units, round-itself}
 use Rattle.reals.proofs.Truth.{is-true, is-false}
 use Rattle.moving_average.specs.Past.{from, differentBefore, different, windowIsFull}
 use Rattle.moving_average.specs.Constants.{delta}
-use Rattle.refusals.specs.declared.Verdict.{Verdict}
-use Rattle.refusals.specs.declared.Verdict.the-variants.{Accepted, Refused}
+use Rattle.refusals.specs.declared.Refusal.the-variants.{AlarmOutOfRange, WindowFull}
+use Rattle.refusals.specs.Refusals.{verdictOrRefused}
+use Rattle.refusals.proofs.Accepting.{no-more}
 use Rattle.past.specs.Acceptance.{verdictAfter}
 use Rattle.relief_fan_group.specs.declared.types.ReliefRow.{ReliefRow}
-use Rattle.relief_fan_group.specs.Verdict.{numbersFinite, orWindowFull}
+use Rattle.relief_fans.specs.Alarms.{alarmsFit}
+use Rattle.relief_fan_group.specs.Verdict.{numbersFinite, afterJudged}
 use Rattle.relief_fan_group.specs.Reading.{timeOfRow, verdictOf}
 use Rattle.relief_answers.specs.Latches.{taken}
 use Rattle.relief_answers.specs.Spacing.{spacingPattern, spacing, apartBy}
@@ -258,12 +260,10 @@ has-room t h w = rw (under (length (different window)) (length window) (differen
     under a b h l = is-false (eqb a 512) (λ e. omega (arith, h, l, eqb→eq a 512 e))
 
 -- for every list of rows, refused ones included: where the times of the accepted rows and of the next one are more than 0.5870841487279844 s apart, that one is not
--- refused with 4: refusals 1, 2 and 3 alone judge it
+-- refused with 4: refusals 1, 2, 3 and 11 alone judge it
 pub never-full : (x : ReliefRow) (l : List ReliefRow) → T (apartBy spacing (x .time ∷ map timeOfRow (taken l)))
-    → verdictOf (taken l) x ≡ verdictAfter timeOfRow numbersFinite (taken l) x
-unfolding verdictOf
-never-full x l w = rw (has-room (x .time) (map timeOfRow (taken l)) w) (go (verdictAfter timeOfRow numbersFinite (taken l) x))
-  where
-    go : (v : Verdict) → orWindowFull v false ≡ v
-    go Accepted = unfold orWindowFull in refl
-    go (Refused r) = unfold orWindowFull in refl
+    → verdictOf (taken l) x ≡ verdictOrRefused (verdictAfter timeOfRow numbersFinite (taken l) x) (not (alarmsFit (x .alarm))) AlarmOutOfRange
+unfolding verdictOf afterJudged
+never-full x l w =
+    rw (has-room (x .time) (map timeOfRow (taken l)) w)
+    (no-more (verdictOrRefused (verdictAfter timeOfRow numbersFinite (taken l) x) (not (alarmsFit (x .alarm))) AlarmOutOfRange) WindowFull)

@@ -3,7 +3,7 @@
 use Prim.Native.Nat.{ℕ, suc, _<_}
 use native.Mathlib.Omega.{arith}
 use mathlib.Core.Path.{_≡_, refl, ap, _∙_}
-use mathlib.Core.Bool.{Bool, true, false, not, _&&_}
+use mathlib.Core.Bool.{Bool, true, false, not, _&&_, true≢false}
 use mathlib.Core.List.{List, [], _∷_, map, reverse}
 use lib.Dec.{T}
 use lib.ListN.{length, getD, take}
@@ -11,10 +11,11 @@ use lib.Ieee.Fits.{and-i, and-l, and-r}
 use lib.Ieee.Scale.{finite}
 use Rattle.reals.specs.Sign.{isTime}
 use Rattle.reals.proofs.FloatOrder.{le→not-lt}
-use Rattle.refusals.specs.declared.Refusal.the-variants.{WindowFull}
-use Rattle.refusals.specs.declared.Refusal.{Refusal}
+use Rattle.refusals.specs.declared.Refusal.the-variants.{AlarmOutOfRange, WindowFull}
 use Rattle.refusals.specs.declared.Verdict.{Verdict}
 use Rattle.refusals.specs.declared.Verdict.the-variants.{Accepted, Refused}
+use Rattle.refusals.specs.Refusals.{verdictOrRefused}
+use Rattle.refusals.proofs.Accepting.{neither-fits}
 use Rattle.past.specs.Stepped.{notBefore, inOrder}
 use Rattle.past.specs.Acceptance.{verdictAfter}
 use Rattle.logical.specs.Run.{run}
@@ -27,9 +28,10 @@ use Rattle.moving_average.specs.Past.{belowLast, timeAccepted, accepted, window
 use Rattle.moving_average.specs.State.{movingAverageIsFull}
 use Rattle.moving_average.proofs.Accepted.{accepted-cons}
 use Rattle.moving_average.proofs.Reading.{is-full-reads}
+use Rattle.relief_fans.specs.Alarms.{alarmsFit}
 use Rattle.relief_fan_group.specs.declared.types.ReliefRow.{ReliefRow}
 use Rattle.relief_fan_group.specs.declared.types.ReliefAnswer.the-variants as Answer
-use Rattle.relief_fan_group.specs.Verdict.{numbersFinite, orWindowFull, reliefVerdict}
+use Rattle.relief_fan_group.specs.Verdict.{numbersFinite, afterJudged, reliefVerdict}
 use Rattle.relief_fan_group.specs.Signals.{pressureControl, reliefSignals}
 use Rattle.relief_fan_group.specs.Commands.{reliefCommands}
 use Rattle.relief_fan_group.specs.Step.{reliefFresh, reliefRow, signalsAt, stepBy}
@@ -69,32 +71,42 @@ in-time x h o =
 
 -- ---- the verdict on the state of a past is that of the list
 verdict-is : (x : ReliefRow) (h : Past) → T (good h) → reliefVerdict (blocksOf h) x (movingAverageIsFull (movingAverageOf timeOfRow pressureOfRow h) (x .time)) ≡ verdictOf h x
-unfolding reliefVerdict verdictOf verdictAfter orWindowFull
+unfolding reliefVerdict verdictOf verdictAfter
 verdict-is x h g =
     rw (last-reads h) (go (verdictAfter timeOfRow numbersFinite h x)
     (λ e. is-full-reads timeOfRow pressureOfRow h (good-window h g) (x .time) (in-time x h (judged-order x h (good-order h g) e))))
   where
     go : (v : Verdict) → (v ≡ Accepted → movingAverageIsFull (movingAverageOf timeOfRow pressureOfRow h) (x .time) ≡ windowIsFull (map timeOfRow h) (x .time))
-        → orWindowFull v (movingAverageIsFull (movingAverageOf timeOfRow pressureOfRow h) (x .time)) ≡ orWindowFull v (windowIsFull (map timeOfRow h) (x .time))
+        → afterJudged v x (movingAverageIsFull (movingAverageOf timeOfRow pressureOfRow h) (x .time)) ≡ afterJudged v x (windowIsFull (map timeOfRow h) (x .time))
     go Accepted f = rw (f refl) refl
-    go (Refused r) f = refl
+    go (Refused r) f = unfold afterJudged verdictOrRefused in refl
 
--- an accepted row keeps all that
-refused-is-not-accepted : (r : Refusal) → Refused r ≡ Accepted → ⊥
-refused-is-not-accepted r e = let z : _≡_ {A = ℕ} 0 1 = cc in omega arith
+-- an accepted row keeps all that: no refusal fits it
+module _ (x : ReliefRow) (h : Past) (e : verdictOf h x ≡ Accepted) where
+  abbrev judged : Verdict
+  judged = verdictAfter timeOfRow numbersFinite h x
 
-tests : (v : Verdict) (full : Bool) → orWindowFull v full ≡ Accepted → (v ≡ Accepted) × (full ≡ false)
-unfolding orWindowFull
-tests Accepted false e = (refl, refl)
-tests Accepted true e = absurd (refused-is-not-accepted WindowFull e)
-tests (Refused r) full e = absurd (refused-is-not-accepted r e)
+  abbrev out-of-range : Bool
+  out-of-range = not (alarmsFit (x .alarm))
+
+  ranged : (verdictOrRefused judged out-of-range AlarmOutOfRange ≡ Accepted) × (windowIsFull (map timeOfRow h) (x .time) ≡ false)
+  unfolding verdictOf afterJudged
+  ranged = neither-fits (verdictOrRefused judged out-of-range AlarmOutOfRange) (windowIsFull (map timeOfRow h) (x .time)) WindowFull e
+
+  pub accepted-judged : judged ≡ Accepted
+  accepted-judged = neither-fits judged out-of-range AlarmOutOfRange (ranged .0) .0
+
+  pub accepted-fits : T (alarmsFit (x .alarm))
+  accepted-fits = go (alarmsFit (x .alarm)) (neither-fits judged out-of-range AlarmOutOfRange (ranged .0) .1)
+    where
+      go : (b : Bool) → not b ≡ false → T b
+      go true e = tt
+      go false e = absurd (true≢false e)
 
 good-more : (x : ReliefRow) (h : Past) → T (good h) → verdictOf h x ≡ Accepted → T (good (x ∷ h))
-unfolding verdictOf
 good-more x h g e =
-    let fits = tests (verdictAfter timeOfRow numbersFinite h x) (windowIsFull (map timeOfRow h) (x .time)) e in
-    let o = judged-order x h (good-order h g) (fits .0) in
-    and-i (inOrder timeOfRow (x ∷ h)) (accepted (map timeOfRow (x ∷ h))) o (accepted-cons (x .time) (map timeOfRow h) (in-time x h o) (fits .1) (good-window h g))
+    let o = judged-order x h (good-order h g) (accepted-judged x h e) in
+    and-i (inOrder timeOfRow (x ∷ h)) (accepted (map timeOfRow (x ∷ h))) o (accepted-cons (x .time) (map timeOfRow h) (in-time x h o) (ranged x h e .1) (good-window h g))
 
 -- ---- the answer and the returned state of a row after the past h
 -- the signals of an accepted row are the readings

@@ -8,5 +8,6 @@ pub mod Lent
 pub mod Reading
 pub mod Told
 pub mod Left
+pub mod Remembered
 pub mod Blocks
 pub mod Alarms

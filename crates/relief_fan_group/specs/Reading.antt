@@ -11,7 +11,7 @@ use Rattle.moving_average.specs.State.{movingAverageOutput}
 use Rattle.moving_average.specs.Past.{windowIsFull, movingAverageOf}
 use Rattle.relief_fan_group.specs.declared.types.ReliefRow.{ReliefRow}
 use Rattle.relief_fan_group.specs.Constants.{minSpeed, stageUpLevel, hys, stageUpTime, stageDownTime}
-use Rattle.relief_fan_group.specs.Verdict.{numbersFinite, orWindowFull}
+use Rattle.relief_fan_group.specs.Verdict.{numbersFinite, afterJudged}
 use Rattle.relief_fan_group.specs.Signals.{pressureLoop}
 
 abbrev pub Past : Type 0
@@ -56,6 +56,6 @@ pub record ReliefReading : Type 0 where
 unfoldable pub reliefReading : Past → ReliefReading
 reliefReading h = record { mean = mean h; up = upPulse h; down = downPulse h }
 
--- the refusal that fits a row after these accepted rows: the list alone tells it, refusal 4 by the different times of the rows before
+-- the refusal that fits a row after these accepted rows: the list alone tells it, refusal 11 by the row's own alarms, 4 by the different times of the rows before
 unfoldable pub verdictOf : Past → ReliefRow → Verdict
-verdictOf h x = orWindowFull (verdictAfter timeOfRow numbersFinite h x) (windowIsFull (map timeOfRow h) (x .time))
+verdictOf h x = afterJudged (verdictAfter timeOfRow numbersFinite h x) x (windowIsFull (map timeOfRow h) (x .time))

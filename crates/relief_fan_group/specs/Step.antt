@@ -1,5 +1,6 @@
 -- A fresh state, the state after an accepted row, and a row: its commands and the next state, or its refusal and the old state.
 use mathlib.Core.Bool.{true, not}
+use lib.IntN.{pos}
 use Rattle.reals.specs.declared.seen.Seen.the-variants.{Never, At}
 use Rattle.reals.specs.Constants.{plusZero, half}
 use Rattle.reals.specs.Four.{each4}
@@ -11,6 +12,7 @@ use Rattle.logical.specs.TrueDelayOnInit.{trueDelayOnInitNew}
 use Rattle.refusals.specs.declared.Verdict.{Verdict}
 use Rattle.refusals.specs.declared.Verdict.the-variants.{Accepted, Refused}
 use Rattle.moving_average.specs.State.{movingAverageNew, movingAverageOutput, movingAverageIsFull, movingAverageUpdate}
+use Rattle.relief_fans.specs.Alarms.{alarmBytes}
 use Rattle.relief_fans.specs.Blocks.{thresholdUpdates, delayUpdates}
 use Rattle.relief_fan_group.specs.declared.types.ReliefRow.{ReliefRow}
 use Rattle.relief_fan_group.specs.declared.types.ReliefBlocks.{ReliefBlocks}
@@ -23,10 +25,11 @@ use Rattle.relief_fan_group.specs.Verdict.{reliefVerdict}
 use Rattle.relief_fan_group.specs.Signals.{reliefSignals}
 use Rattle.relief_fan_group.specs.Commands.{reliefCommands}
 
--- the blocks as `relief_fan_group_trace` makes them, before any row; pre and pre1 start true
+-- the blocks as `relief_fan_group_trace` makes them, before any row; pre and pre1 start true; the alarms remembered are 0
 unfoldable pub reliefBlocks : ReliefBlocks
 reliefBlocks = record {
   last = Never;
+  alarms = each4 (λ i. pos 0);
   «gre_thr» = thresholdAbove damperOpen hys;
   «les_thr» = thresholdBelow damperShut hys;
   tim = presentTimerNew damperShutTime;
@@ -53,7 +56,7 @@ reliefBlocks = record {
 unfoldable pub reliefFresh : ReliefState
 reliefFresh = record { window = movingAverageNew; blocks = reliefBlocks }
 
--- every block one row further, each with the input that its output was worked from
+-- every block one row further, each with the input that its output was worked from; the row's alarms in a byte each
 unfoldable pub reliefNext : ReliefBlocks → ReliefRow → ReliefSignals → ReliefBlocks
 reliefNext blocks row signals =
     let t = row .time in
@@ -63,6 +66,7 @@ reliefNext blocks row signals =
     let u = control .controller in
     record {
       last = At t;
+      alarms = alarmBytes (row .alarm);
       «gre_thr» = thresholdUpdate (blocks .«gre_thr») u;
       «les_thr» = thresholdUpdate (blocks .«les_thr») u;
       tim = presentTimerUpdate (blocks .tim) t (signals .dampers .«damper_close_request»);

@@ -6,4 +6,5 @@ pub mod signals; // every block's output at a row
 pub mod commands; // the outputs, worked from the signals
 pub mod step; // a fresh state, the next state, and the row itself
 pub mod left; // how long until each timer passes
+pub mod remembered; // what a state remembers of the alarms
 pub mod lent; // the row on a window whose arrays are lent, without a copy

@@ -28,6 +28,7 @@ use moving_average::state::MovingAverageState;
 use reals::seen::Seen;
 use reals::threshold::ThresholdState;
 use refusals::Verdict;
+use relief_fans::alarms::alarm_bytes;
 use relief_fans::blocks::delay_updates;
 use relief_fans::blocks::threshold_updates;
 
@@ -40,6 +41,7 @@ pub fn relief_blocks() -> ReliefBlocks
     let delay = TrueDelayOnInitState::new(PROOF_TIME);
     ReliefBlocks {
         last: Seen::Never,
+        alarms: [0; 4],
         gre_thr: ThresholdState::above(DAMPER_OPEN, HYS),
         les_thr: ThresholdState::below(DAMPER_SHUT, HYS),
         tim: PresentTimerState::new(DAMPER_SHUT_TIME),
@@ -73,11 +75,12 @@ pub fn relief_fresh() -> ReliefState
     }
 }
 
-// The blocks after an accepted row with these signals: every block is updated.
+// The blocks after an accepted row with these signals: every block is updated, and the row's alarms are kept.
 pub fn relief_next(blocks: ReliefBlocks, row: ReliefRow, signals: ReliefSignals) -> ReliefBlocks
     ensures { λ r. ⌜ r ≡ reliefNext blocks row signals ⌝ }
 {
     let t = row.time;
+    let alarm = row.alarm;
     let control = signals.control;
     let dampers = signals.dampers;
     let up = signals.up;
@@ -113,6 +116,7 @@ pub fn relief_next(blocks: ReliefBlocks, row: ReliefRow, signals: ReliefSignals)
     let gre_thr3 = blocks.gre_thr3;
     ReliefBlocks {
         last: Seen::At(t),
+        alarms: alarm_bytes(alarm),
         gre_thr: gre_thr.update(controller),
         les_thr: les_thr.update(controller),
         tim: tim.update(t, dampers.damper_close_request),

@@ -18,9 +18,10 @@ pub struct ReliefRow {
     pub proof: [bool; 4],
 }
 
-// The blocks of `relief_fan_group_trace` but its moving average, and the time of the last accepted row.
+// The blocks of `relief_fan_group_trace` but its moving average, and of the last accepted row the time, and the alarm of each fan in a signed byte.
 pub struct ReliefBlocks {
     pub last: Seen,
+    pub alarms: [i8; 4],
     pub gre_thr: ThresholdState,
     pub les_thr: ThresholdState,
     pub tim: PresentTimerState,
@@ -106,6 +107,12 @@ pub struct ReliefLeft {
     pub tim: f64,
     pub up_tim: f64,
     pub dow_tim: f64,
+}
+
+// The alarm that a state remembers of a fan; there are four fans.
+pub enum RememberedAlarm {
+    Alarm(i64),
+    NoFan,
 }
 
 // The outputs, in the order of `Trace`.

@@ -5,3 +5,4 @@ pub mod Flags
 pub mod Orders
 pub mod Blocks
 pub mod Commands
+pub mod Alarms

@@ -4,3 +4,4 @@ pub mod flags; // flags, combined fan by fan
 pub mod orders; // which fan is the next to start, or to stop
 pub mod blocks; // a threshold, or a delay, for each fan
 pub mod commands; // speeds and dampers
+pub mod alarms; // alarms in a signed byte each

@@ -11,6 +11,7 @@ pub relief-blocks-back : (s : ReliefBlocks) → reliefBlocksOf (reliefBlocksWord
 unfolding reliefBlocksOf reliefBlocksWords
 relief-blocks-back s = λ i. record {
   last = seen-back (s .last) i;
+  alarms = s .alarms;
   «gre_thr» = threshold-back (s .«gre_thr») i;
   «les_thr» = threshold-back (s .«les_thr») i;
   tim = present-timer-back (s .tim) i;

@@ -1,4 +1,6 @@
 -- `ReliefBlocks` of relief_fan_group as words. Written by tools/words.
+use lib.IntN.{pos}
+use lib.ListN.{replicate}
 use mathlib.Core.List.{map}
 use Rattle.relief_fan_group.specs.declared.types.ReliefBlocks.{ReliefBlocks}
 use Rattle.relief_words.specs.declared.relief_blocks.ReliefBlocksWords.{ReliefBlocksWords}
@@ -13,6 +15,8 @@ use Rattle.block_words.specs.TrueDelayOnInit.{trueDelayOnInitWords, trueDelayOn
 unfoldable pub reliefBlocksWords : ReliefBlocks → ReliefBlocksWords
 reliefBlocksWords s = record {
   last = seenWords (s .last);
+  alarms = s .alarms;
+  «alarms_unused» = replicate 4 (pos 0);
   «gre_thr» = thresholdWords (s .«gre_thr»);
   «les_thr» = thresholdWords (s .«les_thr»);
   tim = presentTimerWords (s .tim);
@@ -39,6 +43,7 @@ reliefBlocksWords s = record {
 unfoldable pub reliefBlocksOf : ReliefBlocksWords → ReliefBlocks
 reliefBlocksOf w = record {
   last = seenOf (w .last);
+  alarms = w .alarms;
   «gre_thr» = thresholdOf (w .«gre_thr»);
   «les_thr» = thresholdOf (w .«les_thr»);
   tim = presentTimerOf (w .tim);

@@ -16,6 +16,8 @@ use relief_fan_group::types::ReliefBlocks;
 #[repr(C)]
 pub struct ReliefBlocksWords {
     pub last: SeenWords,
+    pub alarms: [i8; 4],
+    pub alarms_unused: [i8; 4],
     pub gre_thr: ThresholdWords,
     pub les_thr: ThresholdWords,
     pub tim: PresentTimerWords,
@@ -43,6 +45,7 @@ impl ReliefBlocksWords {
         ensures { λ r. ⌜ r ≡ reliefBlocksWords value ⌝ }
     {
         let last = value.last;
+        let alarms = value.alarms;
         let gre_thr = value.gre_thr;
         let les_thr = value.les_thr;
         let tim = value.tim;
@@ -65,6 +68,8 @@ impl ReliefBlocksWords {
         let gre_thr3 = value.gre_thr3;
         ReliefBlocksWords {
             last: SeenWords::of(last),
+            alarms,
+            alarms_unused: [0; 4],
             gre_thr: ThresholdWords::of(gre_thr),
             les_thr: ThresholdWords::of(les_thr),
             tim: PresentTimerWords::of(tim),
@@ -92,6 +97,7 @@ impl ReliefBlocksWords {
         ensures { λ r. ⌜ r ≡ reliefBlocksOf self ⌝ }
     {
         let last = self.last;
+        let alarms = self.alarms;
         let gre_thr = self.gre_thr;
         let les_thr = self.les_thr;
         let tim = self.tim;
@@ -114,6 +120,7 @@ impl ReliefBlocksWords {
         let gre_thr3 = self.gre_thr3;
         ReliefBlocks {
             last: last.value(),
+            alarms,
             gre_thr: gre_thr.value(),
             les_thr: les_thr.value(),
             tim: tim.value(),

@@ -1,7 +1,9 @@
--- Rows handed over call by call from a start are answered as the sequence answers them: nothing is lost between two calls. Assumes nothing.
+-- Rows handed over call by call from a start are answered as the sequence answers them, and what is held after them stands for its state: nothing is lost between two
+-- calls. Assumes nothing.
 use mathlib.Core.Path.{_≡_, refl, ap, _∙_}
 use mathlib.Core.List.{List, [], _∷_}
 use Rattle.logical.specs.Run.{run}
+use Rattle.past.specs.Whole.{stateAfter}
 use Rattle.freeze_protection.specs.Step.{freezeFresh, freezeRow}
 use Rattle.economizer_controller.specs.Step.{economizerFresh, economizerRow}
 use Rattle.relief_fan_group.specs.declared.types.ReliefState.{ReliefState}
@@ -31,6 +33,15 @@ module _ {S W R A : Type 0} (held : S → W) (state : W → S) (back : (s : S) �
       λ i.
       answer (back s i) x
       ∷ (ap (λ (t : S). run (λ w y. answer (state w) y) (λ w y. held (next (state w) y)) (held (next t x)) rows) (back s) ∙ by-calls (next s x) rows) i
+
+-- and what is held after rows stands for the state after them
+module _ {S W R : Type 0} (held : S → W) (state : W → S) (back : (s : S) → state (held s) ≡ s) (next : S → R → S) where
+  pub held-after : (s : S) (l : List R) → state (stateAfter (λ w x. held (next (state w) x)) (held s) l) ≡ stateAfter next s l
+  unfolding stateAfter
+  held-after s [] = back s
+  held-after s (x ∷ l) =
+      back (next (state (stateAfter (λ w y. held (next (state w) y)) (held s) l)) x)
+      ∙ ap (λ (t : S). next t x) (held-after s l)
 
 pub freeze-by-calls : (rows : List FreezeRowWords)
     → run (λ w x. freezeAnswered (freezeRow (freezeOf w) (freezeRowOf x) .answer)) (λ w x. freezeWords (freezeRow (freezeOf w) (freezeRowOf x) .state)) (freezeWords freezeFresh) rows

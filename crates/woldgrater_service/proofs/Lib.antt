@@ -3,3 +3,4 @@ pub mod Playing
 pub mod Carrying
 pub mod Calling
 pub mod Lines
+pub mod AlarmCalls

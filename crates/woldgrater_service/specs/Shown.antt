@@ -1,4 +1,6 @@
--- What a caller gets that asks for the signals of a row: its refusal, or what its commands are worked from, and what is left on its timers.
+-- What a caller gets that asks for the signals of a row: its refusal, or what its commands are worked from, and what is left on its timers. What one gets that
+-- asks for an alarm that a state remembers.
+use lib.IntN.{pos}
 use Rattle.econ_words.specs.EconomizerSignals.{economizerSignalsWords, economizerSignalsZero}
 use Rattle.economizer_controller.specs.declared.types.EconomizerSignals.{EconomizerSignals}
 use Rattle.freeze_protection.specs.declared.types.FreezeLeft.{FreezeLeft}
@@ -16,10 +18,13 @@ use Rattle.relief_fan_group.specs.declared.types.ReliefLeft.{ReliefLeft}
 use Rattle.relief_fan_group.specs.declared.types.ReliefRow.{ReliefRow}
 use Rattle.relief_fan_group.specs.declared.types.ReliefSignals.{ReliefSignals}
 use Rattle.relief_fan_group.specs.declared.types.ReliefState.{ReliefState}
+use Rattle.relief_fan_group.specs.declared.types.RememberedAlarm.{RememberedAlarm}
+use Rattle.relief_fan_group.specs.declared.types.RememberedAlarm.the-variants.{Alarm, NoFan}
 use Rattle.relief_words.specs.ReliefLeft.{reliefLeftWords, reliefLeftZero}
 use Rattle.relief_words.specs.ReliefSignals.{reliefSignalsWords, reliefSignalsZero}
 use Rattle.woldgrater_service.specs.declared.econ.EconomizerShown.{EconomizerShown}
 use Rattle.woldgrater_service.specs.declared.freeze.FreezeShown.{FreezeShown}
+use Rattle.woldgrater_service.specs.declared.relief.AlarmGiven.{AlarmGiven}
 use Rattle.woldgrater_service.specs.declared.relief.ReliefShown.{ReliefShown}
 
 -- a row's refusal, or the signals that its commands are worked from, and what is left on its timers
@@ -42,3 +47,8 @@ unfoldable pub reliefShown : ReliefState → ReliefRow → ReliefShown
 reliefShown state row =
     let signals = signalsAt state row in
     reliefShownBy (reliefVerdict (state .blocks) row (movingAverageIsFull (state .window) (row .time))) (reliefLeft (state .blocks) signals) signals
+
+-- the alarm of a fan that there is, and whether there is (document 02, job 10)
+unfoldable pub alarmGiven : RememberedAlarm → AlarmGiven
+alarmGiven (Alarm alarm) = record { known = 1; alarm = alarm }
+alarmGiven NoFan = record { known = 0; alarm = pos 0 }

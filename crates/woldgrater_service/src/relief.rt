@@ -1,21 +1,25 @@
-// The relief fan group: what a row's commands would be worked from, for a display or a logger, and the line of a row.
+// The relief fan group: what a row's commands would be worked from, for a display or a logger, the alarms that a state remembers, and the line of a row.
 ghost use mathlib.Core.Path.{_≡_};
 ghost use lib.ListN.{length};
 ghost use Rattle.relief_fan_group.specs.Lent.{lentState};
+ghost use Rattle.relief_fan_group.specs.Remembered.{reliefAlarm};
 ghost use Rattle.row_writer.specs.Writing.{writeRow, ReadsBack};
 ghost use Rattle.relief_lines.specs.Relief.{reliefKind};
+ghost use Rattle.relief_words.specs.ReliefBlocks.{reliefBlocksOf};
 ghost use Rattle.relief_words.specs.ReliefRow.{reliefRowOf};
 ghost use Rattle.woldgrater.specs.Relief.{memory, reliefIn};
 ghost use Rattle.woldgrater_service.specs.Line.{LineLeft};
-ghost use Rattle.woldgrater_service.specs.Shown.{reliefShown};
+ghost use Rattle.woldgrater_service.specs.Shown.{reliefShown, alarmGiven};
 use crate::line::LineGiven;
 use crate::line::line_given;
 use moving_average::lent::Integrator;
 use refusals::Verdict;
 use relief_fan_group::left::relief_left;
+use relief_fan_group::remembered::relief_alarm;
 use relief_fan_group::signals::relief_signals;
 use relief_fan_group::types::ReliefBlocks;
 use relief_fan_group::types::ReliefRow;
+use relief_fan_group::types::RememberedAlarm;
 use relief_fan_group::verdict::relief_verdict;
 use relief_lines::relief::write_relief_row;
 use relief_words::relief_left::ReliefLeftWords;
@@ -87,6 +91,33 @@ pub extern "C" fn woldgrater_relief_signals<'a>(
     lend(times);
     lend(integrals);
     relief_shown(times, integrals, integrator, blocks, sampled)
+}
+
+// The alarm of a fan at the last accepted row, 0 before any, and 1 where there is such a fan: for another index both are 0.
+#[repr(C)]
+pub struct AlarmGiven {
+    pub known: u64,
+    pub alarm: i64,
+}
+
+fn alarm_given(remembered: RememberedAlarm) -> AlarmGiven
+    ensures { λ r. ⌜ r ≡ alarmGiven remembered ⌝ }
+{
+    match remembered {
+        RememberedAlarm::Alarm(alarm) => AlarmGiven { known: 1, alarm },
+        RememberedAlarm::NoFan => AlarmGiven { known: 0, alarm: 0 },
+    }
+}
+
+// What a state remembers of the alarm of a fan, by its index from 0 to 3.
+#[no_mangle]
+pub extern "C" fn woldgrater_relief_alarm(state: ReliefWords, fan: usize) -> AlarmGiven
+    ensures { λ r. ⌜ r ≡ alarmGiven (reliefAlarm (reliefBlocksOf (state .blocks)) fan) ⌝ }
+{
+    let words = state.blocks;
+    let blocks = words.value();
+    let remembered = relief_alarm(blocks, fan);
+    alarm_given(remembered)
 }
 
 // Writes the line of a row, with its newline, at the start of out: refused with 1 where a number is not finite, or else with 10 where it does not fit, and no

@@ -109,6 +109,7 @@ class Refusals(unittest.TestCase):
                 (b'%21d\n' % 0, 'line 1, column status: 0 with 0 outputs'),
                 (b'%21d\n' % 7, 'line 1, column status: 7 with 0 outputs'),
                 (b'%21d\n' % 4, 'line 1, column status: 4 with 0 outputs'),
+                (b'%21d\n' % 11, 'line 1, column status: 11 with 0 outputs'),
                 (b'%21d' % 3 + ANSWER[21:], 'line 1, column status: 3 with 4 outputs'),
                 (ANSWER[:42] + b'%21d' % 2 + ANSWER[63:],
                  f"line 1, column minimum_outdoor_air_loop_enabled: '{2:21d}' is not 0 or 1")):
@@ -121,6 +122,17 @@ class Refusals(unittest.TestCase):
                 (b'econ\n' + ROW, b'%21d\n' % 6, 'FILE: line 1: status 6, but line 2 of ROWS gets 0'),
                 (b'econ\n' + b'%21d' % NAN + ROW[21:], ANSWER, 'FILE: line 1: status 0, but line 2 of ROWS gets 1')):
             self.assertEqual(self.refused(files.played, rows, 'ROWS', answers), said)
+
+    def test_answers_to_alarms(self):
+        """11 is due where an alarm does not fit a signed byte, after 3 and before 4."""
+        played = (5.0, -128), (4.0, 128), (6.0, 128), (6.0, -129), (6.0, 127)
+        rows = files.write_rows('relief', [[time, 1, 1, 18.0, 0, 0, 0, alarm, 0, 0, 0, 0] for time, alarm in played])
+        answers = [b'%21d' % 0 * 10 + b'\n', *(b'%21d\n' % status for status in (3, 11, 11, 4))]
+        files.played(rows, 'ROWS', b''.join(answers), 'FILE')
+        for line, status, due in ((2, 11, 3), (3, 0, 11), (4, 4, 11), (5, 11, 0)):
+            wrong = b'%21d\n' % status if status else answers[0]
+            said = self.refused(files.played, rows, 'ROWS', b''.join([*answers[:line - 1], wrong, *answers[line:]]))
+            self.assertEqual(said, f'FILE: line {line}: status {status}, but line {line + 1} of ROWS gets {due}')
 
     def test_the_command_says_so_and_writes_nothing(self):
         data = f'{HEAD}\n{GOOD}\n{cell(TEMPERATURE, "1_0")}\n'.encode()

@@ -19,6 +19,9 @@ enum-told-4 c = search needs
 enum-told-5 : tie.Need-enum-told-5
 enum-told-5 c = search needs
 
+enum-told-6 : tie.Need-enum-told-6
+enum-told-6 c = search needs
+
 returns : tie.Need-returns
 unfolding refusalNumber
 returns c = simp (c .enum-told .given .1)
@@ -39,5 +42,9 @@ returns-5 : tie.Need-returns-5
 unfolding refusalNumber
 returns-5 c = simp (c .enum-told5 .given .1)
 
+returns-6 : tie.Need-returns-6
+unfolding refusalNumber
+returns-6 c = simp (c .enum-told6 .given .1)
+
 pub number-spec : {M : Type 1} → statement M
-number-spec = tie.close (tie.spec enum-told enum-told-2 enum-told-3 enum-told-4 enum-told-5 returns returns-2 returns-3 returns-4 returns-5)
+number-spec = tie.close (tie.spec enum-told enum-told-2 enum-told-3 enum-told-4 enum-told-5 enum-told-6 returns returns-2 returns-3 returns-4 returns-5 returns-6)

@@ -4,6 +4,9 @@ use borrow.Author.Needs.{needs}
 use Rattle.relief_fan_group.proofs.step.relief_next.Statement.{statement}
 use Rattle.relief_fan_group.proofs.step.relief_next.Tie as tie
 
+alarm-bytes-requires : tie.Need-alarm-bytes-requires
+alarm-bytes-requires c κs = search needs
+
 update-requires : tie.Need-update-requires
 update-requires c κs = search needs
 
@@ -72,6 +75,7 @@ returns c =
     let c15 = c10 .before .before .before .before .before in
     let c20 = c15 .before .before .before .before .before in
     rw (
+      ← c20 .before .before .alarm-bytes .ensures,
       ← c20 .before .update .ensures,
       ← c20 .update2 .ensures,
       ← c15 .before .before .before .before .update3 .ensures,
@@ -100,6 +104,7 @@ pub relief-next-spec : {M : Type 1} → statement M
 relief-next-spec =
     tie.close
     (tie.spec
+    alarm-bytes-requires
     update-requires
     update-requires-2
     update-requires-3

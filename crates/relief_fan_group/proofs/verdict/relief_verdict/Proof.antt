@@ -1,5 +1,5 @@
 -- `relief_verdict` meets its contract: each callee's equation is folded into the definition. Assumes nothing.
-use Rattle.relief_fan_group.specs.Verdict.{reliefVerdict}
+use Rattle.relief_fan_group.specs.Verdict.{afterJudged, reliefVerdict}
 use borrow.Author.Needs.{needs}
 use Rattle.relief_fan_group.proofs.verdict.relief_verdict.Statement.{statement}
 use Rattle.relief_fan_group.proofs.verdict.relief_verdict.Tie as tie
@@ -10,17 +10,26 @@ numbers-finite-requires c κs = search needs
 judge-requires : tie.Need-judge-requires
 judge-requires c κs = search needs
 
-or-window-full-requires : tie.Need-or-window-full-requires
-or-window-full-requires c κs = search needs
+alarms-fit-requires : tie.Need-alarms-fit-requires
+alarms-fit-requires c κs = search needs
+
+or-refused-requires : tie.Need-or-refused-requires
+or-refused-requires c κs = search needs
+
+or-refused-requires-2 : tie.Need-or-refused-requires-2
+or-refused-requires-2 c κs = search needs
 
 returns : tie.Need-returns
-unfolding reliefVerdict
+unfolding reliefVerdict afterJudged
 returns c = rw (
-  ← c .before .before .numbers-finite .ensures,
-  ← c .before .judge .ensures,
-  ← c .or-window-full .ensures,
+  ← c .before .before .before .before .numbers-finite .ensures,
+  ← c .before .before .before .judge .ensures,
+  ← c .before .before .alarms-fit .ensures,
+  ← c .before .or-refused .ensures,
+  ← c .or-refused2 .ensures,
 )
 
 pub relief-verdict-spec : {M : Type 1} → statement M
 relief-verdict-spec =
-    tie.close (tie.spec numbers-finite-requires judge-requires or-window-full-requires returns)
+    tie.close
+    (tie.spec numbers-finite-requires judge-requires alarms-fit-requires or-refused-requires or-refused-requires-2 returns)

@@ -1,4 +1,6 @@
 -- `ReliefBlocksWords::of` meets its contract: each field is what its callee's equation says. Written by tools/words.
+use lib.IntN.{pos}
+use lib.ListN.{replicate}
 use borrow.Author.Needs.{needs}
 use Rattle.relief_words.specs.ReliefBlocks.{reliefBlocksWords}
 use Rattle.relief_words.proofs.relief_blocks.ReliefBlocksWords.of.Statement.{statement}
@@ -11,8 +13,14 @@ returns c =
     let c2 = c1 .before .before .before .before .before in
     let c3 = c2 .before .before .before .before .before in
     let c4 = c3 .before .before .before .before .before in
+    let c5 = c4 .before .before .before .before .before in
+    let c6 = c5 .before .before .before .before .before in
+    let c7 = c6 .before .before .before .before .before in
+    let c8 = c7 .before .before .before .before .before in
     λ i. record {
       last = c4 .of .ensures i;
+      alarms = c8 .before .before .args .value .alarms;
+      «alarms_unused» = replicate 4 (pos 0);
       «gre_thr» = c3 .before .before .before .before .of2 .ensures i;
       «les_thr» = c3 .before .before .before .of3 .ensures i;
       tim = c3 .before .before .of4 .ensures i;

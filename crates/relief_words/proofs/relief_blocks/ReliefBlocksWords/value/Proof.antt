@@ -11,8 +11,13 @@ returns c =
     let c2 = c1 .before .before .before .before .before in
     let c3 = c2 .before .before .before .before .before in
     let c4 = c3 .before .before .before .before .before in
+    let c5 = c4 .before .before .before .before .before in
+    let c6 = c5 .before .before .before .before .before in
+    let c7 = c6 .before .before .before .before .before in
+    let c8 = c7 .before .before .before .before .before in
     λ i. record {
       last = c4 .value .ensures i;
+      alarms = c8 .before .before .before .args .self .alarms;
       «gre_thr» = c3 .before .before .before .before .value2 .ensures i;
       «les_thr» = c3 .before .before .before .value3 .ensures i;
       tim = c3 .before .before .value4 .ensures i;

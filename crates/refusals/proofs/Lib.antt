@@ -1,0 +1,2 @@
+-- What is known of an accepted row.
+pub mod Accepting
