@@ -1,7 +1,6 @@
 -- Demand 3 for relief rows: for every list of rows from a fresh start, refused ones included, and every place in it, the row's answer is the refusal that the list
 -- alone tells, or else its mean and both pulses are those that document 01 reads off the accepted rows up to there. Assumes nothing.
 use Prim.Native.Nat.{ℕ, suc, _<_}
-use native.Mathlib.Omega.{arith}
 use mathlib.Core.Path.{_≡_, refl, ap, _∙_}
 use mathlib.Core.Bool.{Bool, true, false, not, _&&_, true≢false}
 use mathlib.Core.List.{List, [], _∷_, map, reverse}

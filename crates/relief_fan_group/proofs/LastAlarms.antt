@@ -1,12 +1,10 @@
 -- What a state remembers of the alarms, over all lists (document 02, job 10). Assumes nothing.
-use Prim.Native.Nat.{ℕ, zero, suc, _≤_, _<_}
+use Prim.Native.Nat.{ℕ, _≤_, _<_}
 use native.Mathlib.Omega.{arith}
-use mathlib.Core.Path.{_≡_, refl, ap, _∙_}
+use mathlib.Core.Path.{_≡_, refl, ap}
 use mathlib.Core.Bool.{Bool, true, false, cond}
 use mathlib.Core.List.{List, [], _∷_}
 use lib.Dec.{T, ltb, nltb→le}
-use lib.IntN.{ℤ}
-use Rattle.reals.proofs.Truth.{is-true}
 use Rattle.refusals.specs.declared.Verdict.{Verdict}
 use Rattle.refusals.specs.declared.Verdict.the-variants.{Accepted, Refused}
 use Rattle.past.specs.Whole.{nextBy, accepted, stateAfter}
@@ -15,8 +13,6 @@ use Rattle.relief_fans.specs.Flags.{allOf}
 use Rattle.relief_fans.specs.Alarms.{fitsByte, alarmsFit}
 use Rattle.relief_fans.proofs.AlarmBytes.{bytes-kept}
 use Rattle.relief_fan_group.specs.declared.types.ReliefRow.{ReliefRow}
-use Rattle.relief_fan_group.specs.declared.types.ReliefBlocks.{ReliefBlocks}
-use Rattle.relief_fan_group.specs.declared.types.RememberedAlarm.{RememberedAlarm}
 use Rattle.relief_fan_group.specs.declared.types.RememberedAlarm.the-variants.{Alarm, NoFan}
 use Rattle.relief_fan_group.specs.Step.{reliefBlocks, reliefFresh, reliefNext}
 use Rattle.relief_fan_group.specs.Reading.{Past, verdictOf}

@@ -1,7 +1,6 @@
 -- `alarm_bytes` meets its contract: after i turns the first i entries are those of the definition. Assumes nothing.
 use Prim.Native.Nat.{_-_}
 use native.Mathlib.Omega.{arith}
-use mathlib.Core.Path.{_∙_}
 use mir.Syntax.{w8, w64}
 use mir.ValLaws.{toZ-ofZ}
 use Rattle.reals.proofs.Four.{Fill, start, more, done}

@@ -1,5 +1,4 @@
 -- `narrow` meets its contract: a number from −128 to 127 is the one that its byte holds. Assumes nothing.
-use mathlib.Core.Path.{_∙_}
 use mir.Syntax.{w8, w64}
 use mir.ValLaws.{toZ-ofZ}
 use Rattle.reals.proofs.Truth.{holds}

@@ -1,8 +1,5 @@
 -- `woldgrater_relief_alarm` meets its contract: the alarm of what the words stand for. Assumes nothing.
-use mathlib.Core.Path.{_∙_}
 use borrow.Author.Needs.{needs}
-use Rattle.relief_fan_group.specs.Remembered.{reliefAlarm}
-use Rattle.woldgrater_service.specs.Shown.{alarmGiven}
 use Rattle.woldgrater_service.proofs.relief.woldgrater_relief_alarm.Statement.{statement}
 use Rattle.woldgrater_service.proofs.relief.woldgrater_relief_alarm.Tie as tie
 
