@@ -6,7 +6,7 @@ use crate::flags::{flag_word, word_flag};
 use logical::edge::EdgeState;
 
 #[repr(C)]
-#[derive(Drop)]
+#[derive(Clone, Copy)]
 pub struct EdgeWords {
     pub previous: u64,
 }

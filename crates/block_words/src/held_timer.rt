@@ -7,7 +7,7 @@ use crate::seen::SeenWords;
 use logical::held_timer::HeldTimerState;
 
 #[repr(C)]
-#[derive(Drop)]
+#[derive(Clone, Copy)]
 pub struct HeldTimerWords {
     pub threshold: f64,
     pub entry_time: SeenWords,

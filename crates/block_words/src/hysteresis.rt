@@ -6,7 +6,7 @@ use crate::flags::{flag_word, word_flag};
 use reals::hysteresis::HysteresisState;
 
 #[repr(C)]
-#[derive(Drop)]
+#[derive(Clone, Copy)]
 pub struct HysteresisWords {
     pub previous: u64,
 }

@@ -6,7 +6,7 @@ use crate::seen::SeenWords;
 use moving_average::lent::Integrator;
 
 #[repr(C)]
-#[derive(Drop)]
+#[derive(Clone, Copy)]
 pub struct IntegratorWords {
     pub t_start: f64,
     pub prev_t: SeenWords,

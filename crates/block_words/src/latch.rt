@@ -6,7 +6,7 @@ use crate::flags::{flag_word, word_flag};
 use logical::latch::LatchState;
 
 #[repr(C)]
-#[derive(Drop)]
+#[derive(Clone, Copy)]
 pub struct LatchWords {
     pub held: u64,
     pub prev_u: u64,

@@ -6,7 +6,7 @@ use crate::seen::SeenWords;
 use reals::pid::PidState;
 
 #[repr(C)]
-#[derive(Drop)]
+#[derive(Clone, Copy)]
 pub struct PidWords {
     pub integral: f64,
     pub prev_t: SeenWords,

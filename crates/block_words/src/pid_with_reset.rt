@@ -7,7 +7,7 @@ use crate::seen::SeenWords;
 use reals::pid_with_reset::PidWithResetState;
 
 #[repr(C)]
-#[derive(Drop)]
+#[derive(Clone, Copy)]
 pub struct PidWithResetWords {
     pub integral: f64,
     pub prev_t: SeenWords,

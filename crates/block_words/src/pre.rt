@@ -6,7 +6,7 @@ use crate::flags::{flag_word, word_flag};
 use logical::pre::PreState;
 
 #[repr(C)]
-#[derive(Drop)]
+#[derive(Clone, Copy)]
 pub struct PreWords {
     pub previous: u64,
 }

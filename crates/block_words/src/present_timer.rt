@@ -7,7 +7,7 @@ use crate::seen::SeenWords;
 use logical::present_timer::PresentTimerState;
 
 #[repr(C)]
-#[derive(Drop)]
+#[derive(Clone, Copy)]
 pub struct PresentTimerWords {
     pub threshold: f64,
     pub entry_time: SeenWords,

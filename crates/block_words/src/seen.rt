@@ -5,7 +5,7 @@ ghost use Rattle.block_words.specs.Seen.{seen_words, seen_of};
 use reals::seen::Seen;
 
 #[repr(C)]
-#[derive(Drop)]
+#[derive(Clone, Copy)]
 pub struct SeenWords {
     pub variant: u64,
     pub at: f64,

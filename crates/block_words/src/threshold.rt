@@ -7,7 +7,7 @@ use crate::threshold_mode::ThresholdModeWords;
 use reals::threshold::ThresholdState;
 
 #[repr(C)]
-#[derive(Drop)]
+#[derive(Clone, Copy)]
 pub struct ThresholdWords {
     pub threshold: f64,
     pub hysteresis: f64,

@@ -5,7 +5,7 @@ ghost use Rattle.block_words.specs.ThresholdMode.{threshold_mode_words, threshol
 use reals::threshold::ThresholdMode;
 
 #[repr(C)]
-#[derive(Drop)]
+#[derive(Clone, Copy)]
 pub struct ThresholdModeWords {
     pub variant: u64,
 }

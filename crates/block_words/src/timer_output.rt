@@ -6,7 +6,7 @@ use crate::flags::flag_word;
 use logical::timer::TimerOutput;
 
 #[repr(C)]
-#[derive(Drop)]
+#[derive(Clone, Copy)]
 pub struct TimerOutputWords {
     pub passed: u64,
     pub elapsed: f64,

@@ -7,7 +7,7 @@ use crate::seen::SeenWords;
 use logical::true_delay::TrueDelayState;
 
 #[repr(C)]
-#[derive(Drop)]
+#[derive(Clone, Copy)]
 pub struct TrueDelayWords {
     pub previous_time: SeenWords,
     pub previous_input: u64,

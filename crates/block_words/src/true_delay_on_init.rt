@@ -7,7 +7,7 @@ use crate::seen::SeenWords;
 use logical::true_delay_on_init::TrueDelayOnInitState;
 
 #[repr(C)]
-#[derive(Drop)]
+#[derive(Clone, Copy)]
 pub struct TrueDelayOnInitWords {
     pub delay_time: f64,
     pub entry_time: SeenWords,

@@ -7,7 +7,7 @@ use crate::seen::SeenWords;
 use logical::true_false_hold::TrueFalseHoldState;
 
 #[repr(C)]
-#[derive(Drop)]
+#[derive(Clone, Copy)]
 pub struct TrueFalseHoldWords {
     pub held: u64,
     pub timer: f64,

@@ -9,28 +9,28 @@ use crate::column::write_column;
 use crate::scan::{Scanned, scan};
 
 // A table of at most 12 columns: their number, and their forms.
-#[derive(Drop)]
+#[derive(Clone, Copy)]
 pub struct Table {
     pub count: usize,
     pub forms: [u8; 12],
 }
 
 // At most 12 words: their number, and the words.
-#[derive(Drop)]
+#[derive(Clone, Copy)]
 pub struct Words {
     pub count: usize,
     pub words: [u64; 12],
 }
 
 // The words of a line, 0 after its last, and whether the line is well formed.
-#[derive(Drop)]
+#[derive(Clone, Copy)]
 pub struct ReadWords {
     pub good: bool,
     pub words: [u64; 12],
 }
 
 // The word of a column; 0 beside `good` false where the column is badly formed.
-#[derive(Drop)]
+#[derive(Clone, Copy)]
 pub struct Word {
     pub good: bool,
     pub word: u64,

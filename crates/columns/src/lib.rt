@@ -1,4 +1,6 @@
 // Columns of row files (document 01, 'Row lines'): 21 wide, with a word in each, read and written by a table of forms, each the inverse of the other.
+#![tactic(auto)]
+
 pub mod scan; // a column, read: the number in it
 pub mod column; // a column, written
 pub mod forms; // the columns of a line by a table of their forms

@@ -3,7 +3,7 @@ ghost use Rattle.std.specs.Prelude.{◌≡◌, true, ◌+◌, ◌*◌, ◌≤◌
 ghost use Rattle.columns.specs.Scan.{every, is_space, is_digit, number_at, scan};
 
 // What stands in a column: a number, with a minus before it or none, or no number.
-#[derive(Drop)]
+#[derive(Clone, Copy)]
 pub enum Scanned {
     Number(bool, u64),
     Malformed,

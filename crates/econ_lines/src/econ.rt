@@ -132,7 +132,7 @@ fn answer_words(answer: EconomizerAnswer) -> Words
 }
 
 // The state after a row, and the words of its answer.
-#[derive(Drop)]
+#[derive(Clone, Copy)]
 pub struct EconStepped {
     pub state: EconomizerState,
     pub answer: Words,

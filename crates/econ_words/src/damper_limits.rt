@@ -5,7 +5,7 @@ ghost use Rattle.econ_words.specs.DamperLimits.{damper_limits_words, damper_limi
 use economizer_controller::types::DamperLimits;
 
 #[repr(C)]
-#[derive(Drop)]
+#[derive(Clone, Copy)]
 pub struct DamperLimitsWords {
     pub outdoor_damper_min_limit: f64,
     pub outdoor_damper_max_limit: f64,

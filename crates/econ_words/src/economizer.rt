@@ -8,7 +8,7 @@ use block_words::seen::SeenWords;
 use economizer_controller::types::EconomizerState;
 
 #[repr(C)]
-#[derive(Drop)]
+#[derive(Clone, Copy)]
 pub struct EconomizerWords {
     pub last: SeenWords,
     pub minimum_outdoor_air_loop: PidWithResetWords,

@@ -6,7 +6,7 @@ use block_words::flags::flag_word;
 use economizer_controller::types::EconomizerCommands;
 
 #[repr(C)]
-#[derive(Drop)]
+#[derive(Clone, Copy)]
 pub struct EconomizerCommandsWords {
     pub outdoor_damper_min_limit: f64,
     pub minimum_outdoor_air_loop_enabled: u64,

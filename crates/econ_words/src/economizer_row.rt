@@ -6,7 +6,7 @@ use block_words::flags::word_flag;
 use economizer_controller::types::EconomizerRow;
 
 #[repr(C)]
-#[derive(Drop)]
+#[derive(Clone, Copy)]
 pub struct EconomizerRowWords {
     pub time: f64,
     pub outdoor_airflow_normalized: f64,

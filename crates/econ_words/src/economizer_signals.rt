@@ -9,7 +9,7 @@ use block_words::flags::flag_word;
 use economizer_controller::types::EconomizerSignals;
 
 #[repr(C)]
-#[derive(Drop)]
+#[derive(Clone, Copy)]
 pub struct EconomizerSignalsWords {
     pub loop_signal: f64,
     pub minimum_outdoor_air_loop_enabled: u64,

@@ -8,7 +8,7 @@ use block_words::true_false_hold::TrueFalseHoldWords;
 use economizer_controller::enable::EnableState;
 
 #[repr(C)]
-#[derive(Drop)]
+#[derive(Clone, Copy)]
 pub struct EnableWords {
     pub hysteresis: HysteresisWords,
     pub hold: TrueFalseHoldWords,

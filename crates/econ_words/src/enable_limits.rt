@@ -5,7 +5,7 @@ ghost use Rattle.econ_words.specs.EnableLimits.{enable_limits_words, enable_limi
 use economizer_controller::types::EnableLimits;
 
 #[repr(C)]
-#[derive(Drop)]
+#[derive(Clone, Copy)]
 pub struct EnableLimitsWords {
     pub outdoor_damper_max_limit: f64,
     pub return_damper_min_limit: f64,

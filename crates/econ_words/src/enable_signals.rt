@@ -6,7 +6,7 @@ use block_words::flags::flag_word;
 use economizer_controller::types::EnableSignals;
 
 #[repr(C)]
-#[derive(Drop)]
+#[derive(Clone, Copy)]
 pub struct EnableSignalsWords {
     pub dry_bulb_delta: f64,
     pub outdoor_air_condition: u64,

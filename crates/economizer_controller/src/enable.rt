@@ -10,7 +10,7 @@ use logical::true_false_hold::TrueFalseHoldState;
 use reals::hysteresis::HysteresisState;
 use reals::switch::switch;
 
-#[derive(Drop)]
+#[derive(Clone, Copy)]
 pub struct EnableState {
     pub hysteresis: HysteresisState,
     pub hold: TrueFalseHoldState,

@@ -1,4 +1,6 @@
 // The economizer of a multizone air handler (Guideline 36; Economizers.Controller as economizer_controller.rs has it), one sampled row at a time.
+#![tactic(auto)]
+
 pub mod types; // row, state, signals, commands, answer, step
 pub mod integers; // CDL.Integers.Equal
 pub mod verdict; // what a row is refused for

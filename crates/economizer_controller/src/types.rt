@@ -5,7 +5,7 @@ use reals::seen::Seen;
 use refusals::Refusal;
 
 // A sampled row: its time in seconds, and `Row`. Airflows are normalized, the temperature is in kelvin. Mode 1 is occupied; stage 0 is no freeze protection.
-#[derive(Drop)]
+#[derive(Clone, Copy)]
 pub struct EconomizerRow {
     pub time: f64,
     pub outdoor_airflow_normalized: f64,
@@ -18,7 +18,7 @@ pub struct EconomizerRow {
 }
 
 // The time of the last accepted row, the loop of the first pass and the blocks of the second. The third has none.
-#[derive(Drop)]
+#[derive(Clone, Copy)]
 pub struct EconomizerState {
     pub last: Seen,
     pub minimum_outdoor_air_loop: PidWithResetState,
@@ -26,7 +26,7 @@ pub struct EconomizerState {
 }
 
 // The damper limits that the first pass gives: those of `DamperLimitsTrace`. Positions from 0 to 1.
-#[derive(Drop)]
+#[derive(Clone, Copy)]
 pub struct DamperLimits {
     pub outdoor_damper_min_limit: f64,
     pub outdoor_damper_max_limit: f64,
@@ -36,7 +36,7 @@ pub struct DamperLimits {
 }
 
 // What the blocks of the second pass give at a row.
-#[derive(Drop)]
+#[derive(Clone, Copy)]
 pub struct EnableSignals {
     pub dry_bulb_delta: f64,
     pub outdoor_air_condition: bool,
@@ -47,7 +47,7 @@ pub struct EnableSignals {
 }
 
 // The damper limits that the second pass gives: `EnableTrace`.
-#[derive(Drop)]
+#[derive(Clone, Copy)]
 pub struct EnableLimits {
     pub outdoor_damper_max_limit: f64,
     pub return_damper_min_limit: f64,
@@ -55,14 +55,14 @@ pub struct EnableLimits {
 }
 
 // The damper positions that the third pass gives.
-#[derive(Drop)]
+#[derive(Clone, Copy)]
 pub struct ReliefModulation {
     pub outdoor_damper_command: f64,
     pub return_damper_command: f64,
 }
 
 // Every block's output at a row, and the limits worked from them: what the commands and the next state are worked from.
-#[derive(Drop)]
+#[derive(Clone, Copy)]
 pub struct EconomizerSignals {
     pub loop_signal: f64,
     pub minimum_outdoor_air_loop_enabled: bool,
@@ -72,7 +72,7 @@ pub struct EconomizerSignals {
 }
 
 // The outputs, in the order of `ControllerTrace`.
-#[derive(Drop)]
+#[derive(Clone, Copy)]
 pub struct EconomizerCommands {
     pub outdoor_damper_min_limit: f64,
     pub minimum_outdoor_air_loop_enabled: bool,
@@ -80,13 +80,13 @@ pub struct EconomizerCommands {
     pub return_damper_command: f64,
 }
 
-#[derive(Drop)]
+#[derive(Clone, Copy)]
 pub enum EconomizerAnswer {
     Commands(EconomizerCommands),
     Refused(Refusal),
 }
 
-#[derive(Drop)]
+#[derive(Clone, Copy)]
 pub struct EconomizerStep {
     pub answer: EconomizerAnswer,
     pub state: EconomizerState,

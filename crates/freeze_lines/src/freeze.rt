@@ -143,7 +143,7 @@ fn answer_words(answer: FreezeAnswer) -> Words
 }
 
 // The state after a row, and the words of its answer.
-#[derive(Drop)]
+#[derive(Clone, Copy)]
 pub struct FreezeStepped {
     pub state: FreezeState,
     pub answer: Words,

@@ -1,4 +1,6 @@
 // Freeze protection of a multizone air handler (Guideline 36; FreezeProtection.mo as freeze_protection.rs has it), one sampled row at a time.
+#![tactic(auto)]
+
 pub mod types; // row, state, signals, what is left on the timers, commands, answer, step
 pub mod constants; // temperatures in kelvin, times in seconds
 pub mod verdict; // what a row is refused for

@@ -10,7 +10,7 @@ use reals::threshold::ThresholdState;
 use refusals::Refusal;
 
 // A sampled row: its time in seconds, and `Inputs`. Temperatures in kelvin, positions and speeds from 0 to 1.
-#[derive(Drop)]
+#[derive(Clone, Copy)]
 pub struct FreezeRow {
     pub time: f64,
     pub outdoor_damper_min_position: f64,
@@ -27,7 +27,7 @@ pub struct FreezeRow {
 }
 
 // The blocks of `freeze_protection_trace`, and the time of the last accepted row.
-#[derive(Drop)]
+#[derive(Clone, Copy)]
 pub struct FreezeState {
     pub last: Seen,
     pub les_thr: ThresholdState,
@@ -51,7 +51,7 @@ pub struct FreezeState {
 }
 
 // The outputs of the thresholds and the whole answers of the timers on them: what the temperature calls for.
-#[derive(Drop)]
+#[derive(Clone, Copy)]
 pub struct FreezeCalls {
     pub les_thr_y: bool,
     pub tim: TimerOutput,
@@ -67,7 +67,7 @@ pub struct FreezeCalls {
 }
 
 // Every block's output at a row: what the commands and the next state are worked from.
-#[derive(Drop)]
+#[derive(Clone, Copy)]
 pub struct FreezeSignals {
     pub calls: FreezeCalls,
     pub or8_y: bool,
@@ -85,7 +85,7 @@ pub struct FreezeSignals {
 
 // The seconds left until each timer passes: tim calls stage 1, tim1 ends it, tim2 and its hold begin stage 2, tim3 or tim4 calls stage 3, and tim5 ends stage 2. A
 // timer whose input is off has its whole time left.
-#[derive(Drop)]
+#[derive(Clone, Copy)]
 pub struct FreezeLeft {
     pub tim: f64,
     pub tim1: f64,
@@ -96,7 +96,7 @@ pub struct FreezeLeft {
 }
 
 // The outputs, in the order of `Trace`.
-#[derive(Drop)]
+#[derive(Clone, Copy)]
 pub struct FreezeCommands {
     pub freeze_protection_stage: u64,
     pub chilled_water_pump_enable: bool,
@@ -112,14 +112,14 @@ pub struct FreezeCommands {
 }
 
 // A row's answer: the commands of an accepted row, or the refusal.
-#[derive(Drop)]
+#[derive(Clone, Copy)]
 pub enum FreezeAnswer {
     Commands(FreezeCommands),
     Refused(Refusal),
 }
 
 // A row's answer, and the state for the next row.
-#[derive(Drop)]
+#[derive(Clone, Copy)]
 pub struct FreezeStep {
     pub answer: FreezeAnswer,
     pub state: FreezeState,

@@ -12,7 +12,7 @@ use block_words::true_false_hold::TrueFalseHoldWords;
 use freeze_protection::types::FreezeState;
 
 #[repr(C)]
-#[derive(Drop)]
+#[derive(Clone, Copy)]
 pub struct FreezeWords {
     pub last: SeenWords,
     pub les_thr: ThresholdWords,

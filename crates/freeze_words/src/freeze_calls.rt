@@ -7,7 +7,7 @@ use block_words::timer_output::TimerOutputWords;
 use freeze_protection::types::FreezeCalls;
 
 #[repr(C)]
-#[derive(Drop)]
+#[derive(Clone, Copy)]
 pub struct FreezeCallsWords {
     pub les_thr_y: u64,
     pub tim: TimerOutputWords,

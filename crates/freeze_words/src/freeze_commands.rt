@@ -6,7 +6,7 @@ use block_words::flags::flag_word;
 use freeze_protection::types::FreezeCommands;
 
 #[repr(C)]
-#[derive(Drop)]
+#[derive(Clone, Copy)]
 pub struct FreezeCommandsWords {
     pub freeze_protection_stage: u64,
     pub chilled_water_pump_enable: u64,

@@ -5,7 +5,7 @@ ghost use Rattle.freeze_words.specs.FreezeLeft.{freeze_left_words, freeze_left_z
 use freeze_protection::types::FreezeLeft;
 
 #[repr(C)]
-#[derive(Drop)]
+#[derive(Clone, Copy)]
 pub struct FreezeLeftWords {
     pub tim: f64,
     pub tim1: f64,

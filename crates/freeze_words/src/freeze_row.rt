@@ -6,7 +6,7 @@ use block_words::flags::word_flag;
 use freeze_protection::types::FreezeRow;
 
 #[repr(C)]
-#[derive(Drop)]
+#[derive(Clone, Copy)]
 pub struct FreezeRowWords {
     pub time: f64,
     pub outdoor_damper_min_position: f64,

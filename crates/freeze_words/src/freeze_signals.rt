@@ -8,7 +8,7 @@ use block_words::timer_output::TimerOutputWords;
 use freeze_protection::types::FreezeSignals;
 
 #[repr(C)]
-#[derive(Drop)]
+#[derive(Clone, Copy)]
 pub struct FreezeSignalsWords {
     pub calls: FreezeCallsWords,
     pub or8_y: u64,

@@ -1,4 +1,6 @@
 // A stream of bytes as lines, whatever the chunks that it comes in: the end of a line in a chunk, and the bytes kept of a line that has not ended.
+#![tactic(auto)]
+
 ghost use Rattle.std.specs.Prelude.{◌≡◌, cond, ◌+◌, ◌≤◌, ◌<◌, min, ltb, length, drop};
 ghost use Rattle.line_stream.specs.Lines.{before_newline, Kept};
 

@@ -2,7 +2,7 @@
 ghost use Rattle.std.specs.Prelude.{◌≡◌};
 ghost use Rattle.logical.specs.Edge.{edge_new, edge_output, edge_update};
 
-#[derive(Drop)]
+#[derive(Clone, Copy)]
 pub struct EdgeState {
     pub previous: bool,
 }

@@ -5,7 +5,7 @@ ghost use Rattle.logical.specs.ElapsedTimer.{elapsed_timer_new, elapsed_timer_ou
 use crate::timer::entry_time;
 use reals::seen::Seen;
 
-#[derive(Drop)]
+#[derive(Clone, Copy)]
 pub struct ElapsedTimerState {
     pub entry_time: Seen,
     pub prev_u: bool,

@@ -6,7 +6,7 @@ use crate::switch::logical_switch;
 use crate::timer::{TimerOutput, elapsed_time, entry_time};
 use reals::seen::Seen;
 
-#[derive(Drop)]
+#[derive(Clone, Copy)]
 pub struct HeldTimerState {
     pub threshold: f64,
     pub entry_time: Seen,

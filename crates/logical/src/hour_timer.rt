@@ -7,7 +7,7 @@ use crate::held_timer::HeldTimerState;
 use crate::timer::TimerOutput;
 use reals::seen::Seen;
 
-#[derive(Drop)]
+#[derive(Clone, Copy)]
 pub struct HourTimerState {
     pub threshold: f64,
     pub entry_time: Seen,

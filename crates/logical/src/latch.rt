@@ -2,7 +2,7 @@
 ghost use Rattle.std.specs.Prelude.{◌≡◌};
 ghost use Rattle.logical.specs.Latch.{latch_new, latch_output, latch_update};
 
-#[derive(Drop)]
+#[derive(Clone, Copy)]
 pub struct LatchState {
     pub held: bool,
     pub prev_u: bool,

@@ -1,5 +1,7 @@
 // CDL.Logical blocks, one row at a time: the state goes in by value, and the next one comes back. A block with unused bytes between its fields hands back a
 // struct made anew from them: a copy of the one that came in would copy those bytes too, at every row.
+#![tactic(auto)]
+
 pub mod switch; // CDL.Logical.Switch
 pub mod edge; // CDL.Logical.Edge
 pub mod latch; // CDL.Logical.Latch

@@ -2,7 +2,7 @@
 ghost use Rattle.std.specs.Prelude.{◌≡◌};
 ghost use Rattle.logical.specs.Pre.{pre_new, pre_output, pre_update};
 
-#[derive(Drop)]
+#[derive(Clone, Copy)]
 pub struct PreState {
     pub previous: bool,
 }

@@ -5,7 +5,7 @@ ghost use Rattle.logical.specs.PresentTimer.{present_timer_new, present_timer_ou
 use crate::timer::{TimerOutput, elapsed_time, entry_time};
 use reals::seen::Seen;
 
-#[derive(Drop)]
+#[derive(Clone, Copy)]
 pub struct PresentTimerState {
     pub threshold: f64,
     pub entry_time: Seen,

@@ -7,7 +7,7 @@ use reals::seen::Seen;
 use reals::switch::switch;
 
 // A timer's answer at a row, CDL.Logical.Timer's passed and y: whether its time has passed, and the seconds since its input became true.
-#[derive(Drop)]
+#[derive(Clone, Copy)]
 pub struct TimerOutput {
     pub passed: bool,
     pub elapsed: f64,

@@ -5,7 +5,7 @@ ghost use Rattle.logical.specs.TrueDelay.{true_delay_new, true_delay_next_timer,
 use reals::seen::Seen;
 use reals::switch::switch;
 
-#[derive(Drop)]
+#[derive(Clone, Copy)]
 pub struct TrueDelayState {
     pub previous_time: Seen,
     pub previous_input: bool,

@@ -5,7 +5,7 @@ ghost use Rattle.logical.specs.TrueDelayOnInit.{true_delay_on_init_new, true_del
 use crate::timer::entry_time;
 use reals::seen::Seen;
 
-#[derive(Drop)]
+#[derive(Clone, Copy)]
 pub struct TrueDelayOnInitState {
     pub delay_time: f64,
     pub entry_time: Seen,

@@ -7,7 +7,7 @@ use reals::order::greater;
 use reals::seen::Seen;
 use reals::switch::switch;
 
-#[derive(Drop)]
+#[derive(Clone, Copy)]
 pub struct TrueFalseHoldState {
     pub held: bool,
     pub timer: f64,
@@ -16,7 +16,7 @@ pub struct TrueFalseHoldState {
     pub false_hold_duration: f64,
 }
 
-#[derive(Drop)]
+#[derive(Clone, Copy)]
 pub struct TrueFalseHoldOutput {
     pub y: bool,
     pub timer: f64,

@@ -10,7 +10,7 @@ use reals::order::greater;
 use reals::seen::Seen;
 
 // The fields of `MovingAverageState` but its arrays.
-#[derive(Drop)]
+#[derive(Clone, Copy)]
 pub struct Integrator {
     pub t_start: f64,
     pub prev_t: Seen,

@@ -7,7 +7,7 @@ use crate::lent::Integrator;
 use reals::seen::Seen;
 
 // The points of the window are the first `count` entries of `times` and `integrals`, oldest first.
-#[derive(Drop)]
+#[derive(Clone, Copy)]
 pub struct MovingAverageState {
     pub t_start: f64,
     pub prev_t: Seen,

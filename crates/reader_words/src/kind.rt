@@ -5,7 +5,7 @@ ghost use Rattle.reader_words.specs.Kind.{kind_words, kind_of};
 use row_kinds::kind::Kind;
 
 #[repr(C)]
-#[derive(Drop)]
+#[derive(Clone, Copy)]
 pub struct KindWords {
     pub variant: u64,
 }

@@ -6,7 +6,7 @@ use crate::kind::KindWords;
 use row_kinds::kind::Phase;
 
 #[repr(C)]
-#[derive(Drop)]
+#[derive(Clone, Copy)]
 pub struct PhaseWords {
     pub variant: u64,
     pub rows: KindWords,

@@ -10,7 +10,7 @@ use relief_words::relief_blocks::ReliefBlocksWords;
 use row_kinds::types::RowReader;
 
 #[repr(C)]
-#[derive(Drop)]
+#[derive(Clone, Copy)]
 pub struct RowReaderWords {
     pub phase: PhaseWords,
     pub freeze: FreezeWords,

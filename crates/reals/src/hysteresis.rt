@@ -2,7 +2,7 @@
 ghost use Rattle.std.specs.Prelude.{◌≡◌};
 ghost use Rattle.reals.specs.Hysteresis.{hysteresis_new, hysteresis_output, hysteresis_update};
 
-#[derive(Drop)]
+#[derive(Clone, Copy)]
 pub struct HysteresisState {
     pub previous: bool,
 }
@@ -24,6 +24,7 @@ impl HysteresisState {
         (!self.previous & (u > Self::U_HIGH)) | (self.previous & (u >= Self::U_LOW))
     }
 
+    #[tactic(auto, unfolding(crate::specs::Hysteresis::hysteresis_update))]
     pub fn update(mut self, u: f64) -> Self
         ensures { result ≡ hysteresis_update self u }
     {

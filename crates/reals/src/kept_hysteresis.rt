@@ -2,7 +2,7 @@
 ghost use Rattle.std.specs.Prelude.{◌≡◌};
 ghost use Rattle.reals.specs.Hysteresis.{kept_hysteresis_new, kept_hysteresis_output, kept_hysteresis_update};
 
-#[derive(Drop)]
+#[derive(Clone, Copy)]
 pub struct KeptHysteresisState {
     pub u_low: f64,
     pub u_high: f64,
@@ -26,6 +26,7 @@ impl KeptHysteresisState {
         (u > self.u_high) | (!(u < self.u_low) & self.previous)
     }
 
+    #[tactic(auto, unfolding(crate::specs::Hysteresis::kept_hysteresis_update))]
     pub fn update(mut self, u: f64) -> Self
         ensures { result ≡ kept_hysteresis_update self u }
     {

@@ -1,4 +1,6 @@
 // f64: the functions of the Rust standard library that the sequences use, and the blocks of CDL.Reals.
+#![tactic(auto)]
+
 pub mod order; // greater, lesser, the smallest of four
 pub mod sign; // finite, the sign bit, the absolute value
 pub mod limits; // the two limiters

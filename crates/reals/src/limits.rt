@@ -6,6 +6,7 @@ use crate::order::{greater, lesser};
 use crate::switch::switch;
 
 // `f64::clamp`: x, or the limit that it lies beyond. A NaN stays a NaN.
+#[tactic(auto, unfolding(crate::specs::Limits::limit))]
 pub fn limit(x: f64, min: f64, max: f64) -> f64
     ensures { result ≡ limit x min max }
 {
@@ -14,6 +15,7 @@ pub fn limit(x: f64, min: f64, max: f64) -> f64
 }
 
 // `clamp` of cdl_recurrences.rs. A NaN becomes the upper limit.
+#[tactic(auto, unfolding(crate::specs::Limits::clamp))]
 pub fn clamp(value: f64, min: f64, max: f64) -> f64
     ensures { result ≡ clamp value min max }
 {

@@ -5,7 +5,7 @@ ghost use Rattle.reals.specs.Pid.{pid_new, pid_unlimited, pid_integrated, pid_ou
 use crate::limits::limit;
 use crate::seen::Seen;
 
-#[derive(Drop)]
+#[derive(Clone, Copy)]
 pub struct PidState {
     pub integral: f64,
     pub prev_t: Seen,
@@ -47,6 +47,7 @@ impl PidState {
         integral + (Self::K / Self::TI) * corrected_error * dt
     }
 
+    #[tactic(auto, unfolding(crate::specs::Pid::pid_output))]
     pub fn output(self, setpoint: f64, measurement: f64) -> f64
         ensures { result ≡ pid_output self setpoint measurement }
     {
@@ -54,6 +55,7 @@ impl PidState {
         limit(unlimited, Self::Y_MIN, Self::Y_MAX)
     }
 
+    #[tactic(auto, unfolding(crate::specs::Pid::pid_update))]
     pub fn update(mut self, t: f64, setpoint: f64, measurement: f64) -> Self
         ensures { result ≡ pid_update self t setpoint measurement }
     {

@@ -7,7 +7,7 @@ use crate::pid::PidState;
 use crate::seen::Seen;
 use crate::switch::switch;
 
-#[derive(Drop)]
+#[derive(Clone, Copy)]
 pub struct PidWithResetState {
     pub integral: f64,
     pub prev_t: Seen,
@@ -31,6 +31,7 @@ impl PidWithResetState {
         }
     }
 
+    #[tactic(auto, unfolding(crate::specs::Pid::pid_with_reset_output))]
     pub fn output(self, setpoint: f64, measurement: f64) -> f64
         ensures { result ≡ pid_with_reset_output self setpoint measurement }
     {
@@ -39,6 +40,7 @@ impl PidWithResetState {
     }
 
     // A rising trigger, on the first row too, resets the integral after that row's output.
+    #[tactic(auto, unfolding(crate::specs::Pid::pid_with_reset_update))]
     pub fn update(mut self, t: f64, setpoint: f64, measurement: f64, trigger: bool) -> Self
         ensures { result ≡ pid_with_reset_update self t setpoint measurement trigger }
     {

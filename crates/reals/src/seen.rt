@@ -4,7 +4,7 @@ ghost use Rattle.reals.specs.Seen.{seen_never, seen_above, seen_elapsed, seen_ga
 
 use crate::order::greater;
 
-#[derive(Drop)]
+#[derive(Clone, Copy)]
 pub enum Seen {
     Never,
     At(f64),
@@ -12,6 +12,7 @@ pub enum Seen {
 
 impl Seen {
     // No time was seen.
+    #[tactic(auto, unfolding(crate::specs::Seen::seen_never))]
     pub fn never(self) -> bool
         ensures { result ≡ seen_never self }
     {
@@ -22,6 +23,7 @@ impl Seen {
     }
 
     // The time seen, if any, is above t.
+    #[tactic(auto, unfolding(crate::specs::Seen::seen_above))]
     pub fn above(self, t: f64) -> bool
         ensures { result ≡ seen_above self t }
     {
@@ -32,6 +34,7 @@ impl Seen {
     }
 
     // t less the time seen; 0 if none was.
+    #[tactic(auto, unfolding(crate::specs::Seen::seen_elapsed))]
     pub fn elapsed(self, t: f64) -> f64
         ensures { result ≡ seen_elapsed self t }
     {
@@ -42,6 +45,7 @@ impl Seen {
     }
 
     // t less the time seen, and 0 where that is below 0 or none was seen: the gap between two rows.
+    #[tactic(auto, unfolding(crate::specs::Seen::seen_gap))]
     pub fn gap(self, t: f64) -> f64
         ensures { result ≡ seen_gap self t }
     {

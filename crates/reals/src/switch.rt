@@ -3,6 +3,7 @@ ghost use Rattle.std.specs.Prelude.{◌≡◌};
 ghost use Rattle.reals.specs.Switch.{switch, bool_to_real};
 
 // a where u is true, b where it is false.
+#[tactic(auto, unfolding(crate::specs::Switch::switch))]
 pub fn switch(u: bool, a: f64, b: f64) -> f64
     ensures { result ≡ switch u a b }
 {
@@ -10,6 +11,7 @@ pub fn switch(u: bool, a: f64, b: f64) -> f64
 }
 
 // 1 where the value is true, 0 where it is false.
+#[tactic(auto, unfolding(crate::specs::Switch::bool_to_real))]
 pub fn bool_to_real(value: bool) -> f64
     ensures { result ≡ bool_to_real value }
 {

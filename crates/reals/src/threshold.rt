@@ -4,7 +4,7 @@ ghost use Rattle.std.specs.Prelude.{◌≡◌};
 ghost use Rattle.reals.specs.Threshold.{crosses, threshold_above, threshold_below, threshold_output, threshold_update};
 
 // On which side of the threshold the output is true.
-#[derive(Drop)]
+#[derive(Clone, Copy)]
 pub enum ThresholdMode {
     Greater,
     Less,
@@ -12,6 +12,7 @@ pub enum ThresholdMode {
 
 impl ThresholdMode {
     // Whether the input crosses the threshold, or, where it did before, stays within the hysteresis.
+    #[tactic(auto, unfolding(crate::specs::Threshold::crosses))]
     pub fn crosses(self, threshold: f64, hysteresis: f64, previous: bool, input: f64) -> bool
         ensures { result ≡ crosses self threshold hysteresis previous input }
     {
@@ -24,7 +25,7 @@ impl ThresholdMode {
     }
 }
 
-#[derive(Drop)]
+#[derive(Clone, Copy)]
 pub struct ThresholdState {
     pub threshold: f64,
     pub hysteresis: f64,
@@ -57,6 +58,7 @@ impl ThresholdState {
         }
     }
 
+    #[tactic(auto, unfolding(crate::specs::Threshold::threshold_output))]
     pub fn output(self, input: f64) -> bool
         ensures { result ≡ threshold_output self input }
     {
@@ -64,6 +66,7 @@ impl ThresholdState {
         mode.crosses(self.threshold, self.hysteresis, self.previous, input)
     }
 
+    #[tactic(auto, unfolding(crate::specs::Threshold::threshold_update))]
     pub fn update(mut self, input: f64) -> Self
         ensures { result ≡ threshold_update self input }
     {

@@ -1,12 +1,14 @@
 // What a row is refused for (document 01, 'What each row refuses'; document 02, job 10, for alarms, and job 8, for a row that is written), one enum for all,
 // the three refusals that all sequences share, and those that are tried after them.
+#![tactic(auto)]
+
 ghost use Rattle.std.specs.Prelude.{◌≡◌};
 ghost use Rattle.refusals.specs.Refusals.{refusal_number, verdict_or_refused, judge};
 
 use reals::seen::Seen;
 use reals::sign::is_sign_negative;
 
-#[derive(Drop)]
+#[derive(Clone, Copy)]
 pub enum Refusal {
     NotFinite,
     NegativeTime,
@@ -16,7 +18,7 @@ pub enum Refusal {
     NoRoom,
 }
 
-#[derive(Drop)]
+#[derive(Clone, Copy)]
 pub enum Verdict {
     Accepted,
     Refused(Refusal),

@@ -12,7 +12,7 @@ use moving_average::lent::Integrator;
 use refusals::Verdict;
 
 // `ReliefStep` without the window's arrays.
-#[derive(Drop)]
+#[derive(Clone, Copy)]
 pub struct LentStep {
     pub answer: ReliefAnswer,
     pub integrator: Integrator,

@@ -1,4 +1,6 @@
 // The relief fan group of a multizone air handler (Guideline 36; ReliefFanGroup.mo as relief_fan_group.rs has it), one sampled row at a time.
+#![tactic(auto)]
+
 pub mod types; // row, state, signals, what is left on the timers, commands, answer, step
 pub mod constants; // speeds from 0 to 1, times in seconds
 pub mod verdict; // what a row is refused for

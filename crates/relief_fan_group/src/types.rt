@@ -10,7 +10,7 @@ use reals::threshold::ThresholdState;
 use refusals::Refusal;
 
 // A sampled row: its time in seconds, and `Inputs`. The pressure in pascal, an alarm's level, a flag for each fan.
-#[derive(Drop)]
+#[derive(Clone, Copy)]
 pub struct ReliefRow {
     pub time: f64,
     pub supply: [bool; 2],
@@ -20,7 +20,7 @@ pub struct ReliefRow {
 }
 
 // The blocks of `relief_fan_group_trace` but its moving average, and of the last accepted row the time, and the alarm of each fan in a signed byte.
-#[derive(Drop)]
+#[derive(Clone, Copy)]
 pub struct ReliefBlocks {
     pub last: Seen,
     pub alarms: [i8; 4],
@@ -47,14 +47,14 @@ pub struct ReliefBlocks {
 }
 
 // The moving average, whose window is large, beside all other state.
-#[derive(Drop)]
+#[derive(Clone, Copy)]
 pub struct ReliefState {
     pub window: MovingAverageState,
     pub blocks: ReliefBlocks,
 }
 
 // The pressure loop, and the fans that the supply fans enable.
-#[derive(Drop)]
+#[derive(Clone, Copy)]
 pub struct PressureControl {
     pub average: f64,
     pub controller: f64,
@@ -66,7 +66,7 @@ pub struct PressureControl {
 }
 
 // The dampers of stage zero, and the timer whose pass shuts them.
-#[derive(Drop)]
+#[derive(Clone, Copy)]
 pub struct DamperEnable {
     pub damper_open: bool,
     pub damper_close_request: bool,
@@ -75,7 +75,7 @@ pub struct DamperEnable {
 }
 
 // The next fan to start, the timer whose pass is the up pulse, and the latch that it sets.
-#[derive(Drop)]
+#[derive(Clone, Copy)]
 pub struct StageUp {
     pub all_fans_off: bool,
     pub pro1: [f64; 4],
@@ -88,7 +88,7 @@ pub struct StageUp {
 }
 
 // The next fan to stop, the timer whose pass is the down pulse, and the latch that it sets.
-#[derive(Drop)]
+#[derive(Clone, Copy)]
 pub struct StageDown {
     pub pro2: [f64; 4],
     pub down_distance: [f64; 4],
@@ -101,7 +101,7 @@ pub struct StageDown {
 }
 
 // Every block's output at a row: what the commands and the next state are worked from.
-#[derive(Drop)]
+#[derive(Clone, Copy)]
 pub struct ReliefSignals {
     pub control: PressureControl,
     pub dampers: DamperEnable,
@@ -111,7 +111,7 @@ pub struct ReliefSignals {
 
 // The seconds left until each timer passes: tim shuts the dampers of stage zero, up_tim is the up pulse, and dow_tim the down pulse. A timer whose input is off has its
 // whole time left.
-#[derive(Drop)]
+#[derive(Clone, Copy)]
 pub struct ReliefLeft {
     pub tim: f64,
     pub up_tim: f64,
@@ -119,14 +119,14 @@ pub struct ReliefLeft {
 }
 
 // The alarm that a state remembers of a fan; there are four fans.
-#[derive(Drop)]
+#[derive(Clone, Copy)]
 pub enum RememberedAlarm {
     Alarm(i64),
     NoFan,
 }
 
 // The outputs, in the order of `Trace`.
-#[derive(Drop)]
+#[derive(Clone, Copy)]
 pub struct ReliefCommands {
     pub averaged_pressure: f64,
     pub fan_speed_1: f64,
@@ -140,14 +140,14 @@ pub struct ReliefCommands {
 }
 
 // A row's answer: the commands of an accepted row, or the refusal.
-#[derive(Drop)]
+#[derive(Clone, Copy)]
 pub enum ReliefAnswer {
     Commands(ReliefCommands),
     Refused(Refusal),
 }
 
 // A row's answer, and the state for the next row.
-#[derive(Drop)]
+#[derive(Clone, Copy)]
 pub struct ReliefStep {
     pub answer: ReliefAnswer,
     pub state: ReliefState,

@@ -143,7 +143,7 @@ fn answer_words(answer: ReliefAnswer) -> Words
 }
 
 // The state after a row but the window's arrays, which are lent, and the words of its answer.
-#[derive(Drop)]
+#[derive(Clone, Copy)]
 pub struct ReliefStepped {
     pub integrator: Integrator,
     pub blocks: ReliefBlocks,

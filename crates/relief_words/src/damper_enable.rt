@@ -7,7 +7,7 @@ use block_words::timer_output::TimerOutputWords;
 use relief_fan_group::types::DamperEnable;
 
 #[repr(C)]
-#[derive(Drop)]
+#[derive(Clone, Copy)]
 pub struct DamperEnableWords {
     pub damper_open: u64,
     pub damper_close_request: u64,

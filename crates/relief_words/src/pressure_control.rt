@@ -6,7 +6,7 @@ use block_words::flags::flag_word;
 use relief_fan_group::types::PressureControl;
 
 #[repr(C)]
-#[derive(Drop)]
+#[derive(Clone, Copy)]
 pub struct PressureControlWords {
     pub average: f64,
     pub controller: f64,

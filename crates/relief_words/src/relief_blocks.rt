@@ -13,7 +13,7 @@ use block_words::true_delay_on_init::{
 use relief_fan_group::types::ReliefBlocks;
 
 #[repr(C)]
-#[derive(Drop)]
+#[derive(Clone, Copy)]
 pub struct ReliefBlocksWords {
     pub last: SeenWords,
     pub alarms: [i8; 4],

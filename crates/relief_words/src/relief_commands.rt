@@ -5,7 +5,7 @@ ghost use Rattle.relief_words.specs.ReliefCommands.{relief_commands_words, relie
 use relief_fan_group::types::ReliefCommands;
 
 #[repr(C)]
-#[derive(Drop)]
+#[derive(Clone, Copy)]
 pub struct ReliefCommandsWords {
     pub averaged_pressure: f64,
     pub fan_speed_1: f64,

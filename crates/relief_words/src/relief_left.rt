@@ -5,7 +5,7 @@ ghost use Rattle.relief_words.specs.ReliefLeft.{relief_left_words, relief_left_z
 use relief_fan_group::types::ReliefLeft;
 
 #[repr(C)]
-#[derive(Drop)]
+#[derive(Clone, Copy)]
 pub struct ReliefLeftWords {
     pub tim: f64,
     pub up_tim: f64,

@@ -6,7 +6,7 @@ use block_words::flags::{flag_values_of_four, flag_values_of_two};
 use relief_fan_group::types::ReliefRow;
 
 #[repr(C)]
-#[derive(Drop)]
+#[derive(Clone, Copy)]
 pub struct ReliefRowWords {
     pub time: f64,
     pub supply: [u64; 2],

@@ -9,7 +9,7 @@ use crate::stage_up::StageUpWords;
 use relief_fan_group::types::ReliefSignals;
 
 #[repr(C)]
-#[derive(Drop)]
+#[derive(Clone, Copy)]
 pub struct ReliefSignalsWords {
     pub control: PressureControlWords,
     pub dampers: DamperEnableWords,

@@ -7,7 +7,7 @@ use block_words::timer_output::TimerOutputWords;
 use relief_fan_group::types::StageDown;
 
 #[repr(C)]
-#[derive(Drop)]
+#[derive(Clone, Copy)]
 pub struct StageDownWords {
     pub pro2: [f64; 4],
     pub down_distance: [f64; 4],

@@ -7,7 +7,7 @@ use block_words::timer_output::TimerOutputWords;
 use relief_fan_group::types::StageUp;
 
 #[repr(C)]
-#[derive(Drop)]
+#[derive(Clone, Copy)]
 pub struct StageUpWords {
     pub all_fans_off: u64,
     pub pro1: [f64; 4],

@@ -1,5 +1,7 @@
 // Blocks on their own, on cases of document 01: a line for each case, with the block's output at each row, 1 for true and 0 for false.
 // The file stdout holds what the blocks of the Rust give on the same rows (compare/stored).
+#![tactic(auto)]
+
 use columns::word::pattern;
 use libc::STDOUT_FILENO;
 use logical::elapsed_timer::ElapsedTimerState;

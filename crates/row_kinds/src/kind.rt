@@ -9,7 +9,7 @@ use econ_lines::econ::{ECON_ANSWER, ECON_ROW};
 use freeze_lines::freeze::{FREEZE_ANSWER, FREEZE_ROW};
 use relief_lines::relief::{RELIEF_ANSWER, RELIEF_ROW};
 
-#[derive(Drop)]
+#[derive(Clone, Copy)]
 pub enum Kind {
     Freeze,
     Relief,
@@ -17,7 +17,7 @@ pub enum Kind {
 }
 
 // Before the first line, at the rows of a kind, or after a first line that names none.
-#[derive(Drop)]
+#[derive(Clone, Copy)]
 pub enum Phase {
     First,
     Rows(Kind),

@@ -12,7 +12,7 @@ use line_stream::line_end;
 use relief_lines::relief::relief_step;
 
 // The reader after some lines, the place of the bytes after the last of them, and the place after their answers.
-#[derive(Drop)]
+#[derive(Clone, Copy)]
 pub struct Passed {
     pub reader: RowReader,
     pub rest: usize,

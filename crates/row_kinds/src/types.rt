@@ -13,7 +13,7 @@ use relief_fan_group::step::relief_blocks;
 use relief_fan_group::types::ReliefBlocks;
 
 // What is carried from chunk to chunk, but the arrays of the relief window and the bytes kept of a line.
-#[derive(Drop)]
+#[derive(Clone, Copy)]
 pub struct RowReader {
     pub phase: Phase,
     pub freeze: FreezeState,
@@ -23,7 +23,7 @@ pub struct RowReader {
 }
 
 // The reader after a chunk, the bytes kept of a line that has not ended, and the bytes to be written.
-#[derive(Drop)]
+#[derive(Clone, Copy)]
 pub struct Fed {
     pub reader: RowReader,
     pub len: usize,

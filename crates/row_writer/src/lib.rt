@@ -1,4 +1,6 @@
 // A row written as its line (document 02, job 8), by the table of its columns: the whole line with its newline, or nothing.
+#![tactic(auto)]
+
 ghost use Rattle.std.specs.Prelude.{◌≡◌, ◌+◌, ◌*◌, ◌≤◌, ltb, not};
 ghost use Rattle.columns.specs.Forms.{forms_of, words_in};
 ghost use Rattle.columns.specs.Line.{words_line};
@@ -9,7 +11,7 @@ use columns::line::write_line;
 use refusals::Refusal;
 
 // What writing a row gives: the place after its line, or why it is refused.
-#[derive(Drop)]
+#[derive(Clone, Copy)]
 pub enum RowWritten {
     Line(usize),
     Refused(Refusal),

@@ -1,5 +1,7 @@
 // Reads a row file from standard input and writes its answers to standard output (document 01, 'Row lines'). What came is answered and written
 // before more is read, so it serves a pipe. Where reading or writing fails it says so on standard error, and stops: it has no exit status to say it with.
+#![tactic(auto)]
+
 ghost use Rattle.std.specs.Prelude.{◌≡◌, ◌≤◌, length};
 ghost use Rattle.row_kinds.specs.Rows.{Lent};
 ghost use Rattle.rows.specs.Turns.{TurnLeft};
@@ -10,7 +12,7 @@ use row_kinds::types::{RowReader, fresh_at};
 use row_reader::feed::{feed, finish};
 
 // The reader after a turn, the bytes kept of a line, whether all answers were written, and whether there is a next turn.
-#[derive(Drop)]
+#[derive(Clone, Copy)]
 struct Turned {
     reader: RowReader,
     len: usize,

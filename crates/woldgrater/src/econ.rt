@@ -13,7 +13,7 @@ use economizer_controller::step::{economizer_fresh, economizer_row};
 use economizer_controller::types::EconomizerAnswer;
 
 // The status of a row, and the commands of an accepted one.
-#[derive(Drop)]
+#[derive(Clone, Copy)]
 pub struct EconomizerAnswered {
     pub status: u64,
     pub commands: EconomizerCommandsWords,
@@ -21,7 +21,7 @@ pub struct EconomizerAnswered {
 
 // The state after a row, its status, and the commands of an accepted one: those of a refused one are 0 and mean nothing.
 #[repr(C)]
-#[derive(Drop)]
+#[derive(Clone, Copy)]
 pub struct EconomizerGiven {
     pub state: EconomizerWords,
     pub status: u64,

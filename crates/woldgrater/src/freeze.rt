@@ -12,7 +12,7 @@ use freeze_words::freeze_commands::FreezeCommandsWords;
 use freeze_words::freeze_row::FreezeRowWords;
 
 // The status of a row, and the commands of an accepted one.
-#[derive(Drop)]
+#[derive(Clone, Copy)]
 pub struct FreezeAnswered {
     pub status: u64,
     pub commands: FreezeCommandsWords,
@@ -20,7 +20,7 @@ pub struct FreezeAnswered {
 
 // The state after a row, its status, and the commands of an accepted one: those of a refused one are 0 and mean nothing.
 #[repr(C)]
-#[derive(Drop)]
+#[derive(Clone, Copy)]
 pub struct FreezeGiven {
     pub state: FreezeWords,
     pub status: u64,

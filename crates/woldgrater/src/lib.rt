@@ -1,4 +1,6 @@
 // What a controller in C or Rust links (include/woldgrater.h): a call a row. Callers prove nothing, so nothing is required of them but what their types say.
+#![tactic(auto)]
+
 pub mod econ;
 pub mod freeze;
 pub mod relief;

@@ -15,14 +15,14 @@ use row_kinds::types::no_points;
 
 // The state without the arrays of its window.
 #[repr(C)]
-#[derive(Drop)]
+#[derive(Clone, Copy)]
 pub struct ReliefWords {
     pub integrator: IntegratorWords,
     pub blocks: ReliefBlocksWords,
 }
 
 // The status of a row, and the commands of an accepted one.
-#[derive(Drop)]
+#[derive(Clone, Copy)]
 pub struct ReliefAnswered {
     pub status: u64,
     pub commands: ReliefCommandsWords,
@@ -30,7 +30,7 @@ pub struct ReliefAnswered {
 
 // The state after a row, its status, and the commands of an accepted one: those of a refused one are 0 and mean nothing.
 #[repr(C)]
-#[derive(Drop)]
+#[derive(Clone, Copy)]
 pub struct ReliefGiven {
     pub state: ReliefWords,
     pub status: u64,

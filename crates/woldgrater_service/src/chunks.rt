@@ -13,14 +13,14 @@ use row_kinds::types::fresh_at;
 
 // The reader, and the number of bytes kept of a line that has not ended.
 #[repr(C)]
-#[derive(Drop)]
+#[derive(Clone, Copy)]
 pub struct State {
     pub reader: RowReaderWords,
     pub kept: usize,
 }
 
 // The state after a chunk, and the number of bytes to be written.
-#[derive(Drop)]
+#[derive(Clone, Copy)]
 pub struct ChunkFed {
     pub state: State,
     pub sent: usize,
@@ -28,7 +28,7 @@ pub struct ChunkFed {
 
 // The same, and 1 where the reader has stopped: it reads no more.
 #[repr(C)]
-#[derive(Drop)]
+#[derive(Clone, Copy)]
 pub struct Fed {
     pub state: State,
     pub sent: usize,

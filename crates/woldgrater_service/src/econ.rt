@@ -21,7 +21,7 @@ use refusals::Verdict;
 
 // The status of a row, and what the commands of an accepted one are worked from.
 #[repr(C)]
-#[derive(Drop)]
+#[derive(Clone, Copy)]
 pub struct EconomizerShown {
     pub status: u64,
     pub signals: EconomizerSignalsWords,

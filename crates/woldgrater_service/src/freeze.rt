@@ -24,7 +24,7 @@ use refusals::Verdict;
 // The status of a row, and what the commands of an accepted one are worked from.
 // Beside it the seconds left on its timers.
 #[repr(C)]
-#[derive(Drop)]
+#[derive(Clone, Copy)]
 pub struct FreezeShown {
     pub status: u64,
     pub signals: FreezeSignalsWords,

@@ -1,4 +1,6 @@
 // What displays, loggers and testers link beside it (include/woldgrater.h). Callers prove nothing, so nothing is required of them but what their types say.
+#![tactic(auto)]
+
 pub mod line; // what a written line gives
 pub mod freeze; // signals and lines of freeze protection
 pub mod econ; // those of the economizer

@@ -6,7 +6,7 @@ use row_writer::RowWritten;
 
 // The status, and the number of bytes written.
 #[repr(C)]
-#[derive(Drop)]
+#[derive(Clone, Copy)]
 pub struct LineGiven {
     pub status: u64,
     pub len: usize,

@@ -27,7 +27,7 @@ use woldgrater::relief::{ReliefWords, lend};
 // The status of a row, and what the commands of an accepted one are worked from.
 // Beside it the seconds left on its timers.
 #[repr(C)]
-#[derive(Drop)]
+#[derive(Clone, Copy)]
 pub struct ReliefShown {
     pub status: u64,
     pub signals: ReliefSignalsWords,
@@ -92,7 +92,7 @@ pub extern "C" fn woldgrater_relief_signals<'a>(
 
 // The alarm of a fan at the last accepted row, 0 before any, and 1 where there is such a fan: for another index both are 0.
 #[repr(C)]
-#[derive(Drop)]
+#[derive(Clone, Copy)]
 pub struct AlarmGiven {
     pub known: u64,
     pub alarm: i64,

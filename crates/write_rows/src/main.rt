@@ -2,6 +2,8 @@
 // 15 words of 8 bytes, the lowest byte first: the kind (0 freeze, 1 relief, 2 econ), the bytes of the buffer that are lent, up to 512, the place of the line,
 // and the 12 words of a row, 0 after its last. Standard output gets, for each record, the status, the place after the line, and all 512 bytes of the buffer,
 // which is not cleared between.
+#![tactic(auto)]
+
 ghost use Rattle.std.specs.Prelude.{◌+◌, ◌*◌, ◌≤◌, ◌<◌, ◌≡◌, length};
 
 use columns::line::write_status_line;

@@ -1,11 +1,9 @@
--- `abs` meets its contract: a float with its sign bit set is turned about. Assumes nothing.
+-- `abs`: a float with its sign bit set is turned about.
 use mathlib.Core.Path.{◌≡◌, refl, sym, ◌∙◌}
 use mathlib.Core.Bool.{true, false, true≢false}
 use lib.Ieee.{Float, nan, inf, fin, neg}
-use borrow.Author.Rules.{rules}
 use Rattle.reals.specs.Sign.{abs, is_sign_negative}
-use Rattle.reals.proofs.sign.abs.Statement.{statement}
-use Rattle.reals.proofs.sign.abs.Tie as tie
+use Rattle.reals.proofs.sign.abs.Goals as goal
 
 turned : (x : Float) → is_sign_negative x ≡ true → neg x ≡ abs x
 unfolding is_sign_negative neg abs
@@ -23,14 +21,8 @@ kept (inf false) e = refl
 kept (fin true m k) e = absurd (true≢false e)
 kept (fin false m k) e = refl
 
-is-sign-negative-requires : tie.Need-is-sign-negative-requires
-is-sign-negative-requires c κs = search rules
+pub returns-then-is_sign_negative : goal.returns-then-is_sign_negative
+returns-then-is_sign_negative c = turned c.args.x (sym c.is_sign_negative.ensures ∙ c.if-is_sign_negative.true)
 
-returns : tie.Need-returns
-returns c = turned c.before.before.args.x (sym c.before.is_sign_negative.ensures ∙ c.if1.true)
-
-returns-2 : tie.Need-returns-2
-returns-2 c = kept c.before.before.args.x (sym c.before.is_sign_negative.ensures ∙ c.if1.false)
-
-pub abs_spec : {M : Type 1} → statement M
-abs_spec = tie.close (tie.spec is-sign-negative-requires returns returns-2)
+pub returns-else-is_sign_negative : goal.returns-else-is_sign_negative
+returns-else-is_sign_negative c = kept c.args.x (sym c.is_sign_negative.ensures ∙ c.if-is_sign_negative.false)
