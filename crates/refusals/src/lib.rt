@@ -26,6 +26,7 @@ pub enum Verdict {
 
 impl Refusal {
     // The papers' number of the refusal: the status of a row line.
+    #[tactic(auto, unfolding(crate::specs::Refusals::refusal_number))]
     pub fn number(self) -> u64
         ensures { result ≡ refusal_number self }
     {
@@ -42,6 +43,7 @@ impl Refusal {
 
 impl Verdict {
     // The verdict with one refusal more, tried after those before it.
+    #[tactic(auto, unfolding(crate::specs::Refusals::verdict_or_refused))]
     pub fn or_refused(self, fits: bool, refusal: Refusal) -> Verdict
         ensures { result ≡ verdict_or_refused self fits refusal }
     {
@@ -59,6 +61,7 @@ impl Verdict {
 }
 
 // The first refusal that fits a row at a time, after rows that were accepted up to the last time: `finite` says that all its numbers are finite.
+#[tactic(auto, unfolding(crate::specs::Refusals::judge))]
 pub fn judge(finite: bool, time: f64, last: Seen) -> Verdict
     ensures { result ≡ judge finite time last }
 {
