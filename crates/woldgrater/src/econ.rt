@@ -29,8 +29,7 @@ pub struct EconomizerGiven {
 }
 
 // The state of a start, before any row.
-#[unsafe(no_mangle)]
-pub extern "C" fn woldgrater_econ_start() -> EconomizerWords
+pub fn woldgrater_econ_start() -> EconomizerWords
     ensures { result ≡ economizer_words economizer_fresh }
 {
     let fresh = economizer_fresh();
@@ -54,11 +53,7 @@ fn economizer_answered(answer: EconomizerAnswer) -> EconomizerAnswered
 }
 
 // One row: its commands and the next state, or its refusal and the old state.
-#[unsafe(no_mangle)]
-pub extern "C" fn woldgrater_econ_row(
-    state: EconomizerWords,
-    row: EconomizerRowWords,
-) -> EconomizerGiven
+pub fn woldgrater_econ_row(state: EconomizerWords, row: EconomizerRowWords) -> EconomizerGiven
     ensures { result ≡ economizer_given (economizer_row (economizer_of state) (economizer_row_of row)) }
 {
     let held = state.value();

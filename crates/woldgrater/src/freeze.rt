@@ -28,8 +28,7 @@ pub struct FreezeGiven {
 }
 
 // The state of a start, before any row.
-#[unsafe(no_mangle)]
-pub extern "C" fn woldgrater_freeze_start() -> FreezeWords
+pub fn woldgrater_freeze_start() -> FreezeWords
     ensures { result ≡ freeze_words freeze_fresh }
 {
     let fresh = freeze_fresh();
@@ -53,8 +52,7 @@ fn freeze_answered(answer: FreezeAnswer) -> FreezeAnswered
 }
 
 // One row: its commands and the next state, or its refusal and the old state.
-#[unsafe(no_mangle)]
-pub extern "C" fn woldgrater_freeze_row(state: FreezeWords, row: FreezeRowWords) -> FreezeGiven
+pub fn woldgrater_freeze_row(state: FreezeWords, row: FreezeRowWords) -> FreezeGiven
     ensures { result ≡ freeze_given (freeze_row (freeze_of state) (freeze_row_of row)) }
 {
     let held = state.value();

@@ -38,11 +38,7 @@ pub struct ReliefGiven {
 }
 
 // The state of a start, before any row: the arrays are set to 0.
-#[unsafe(no_mangle)]
-pub extern "C" fn woldgrater_relief_start(
-    times: &mut [f64; 512],
-    integrals: &mut [f64; 512],
-) -> ReliefWords
+pub fn woldgrater_relief_start(times: &mut [f64; 512], integrals: &mut [f64; 512]) -> ReliefWords
     ensures { memory result times.new integrals.new ≡ relief_memory relief_fresh }
 {
     *times = [0.0; 512];
@@ -79,8 +75,7 @@ fn relief_answered(answer: ReliefAnswer) -> ReliefAnswered
 }
 
 // One row: its commands and the next state, or its refusal and the old state.
-#[unsafe(no_mangle)]
-pub extern "C" fn woldgrater_relief_row(
+pub fn woldgrater_relief_row(
     times: &mut [f64; 512],
     integrals: &mut [f64; 512],
     state: ReliefWords,

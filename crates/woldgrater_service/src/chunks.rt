@@ -36,8 +36,7 @@ pub struct Fed {
 }
 
 // The state before the first chunk.
-#[unsafe(no_mangle)]
-pub extern "C" fn woldgrater_start() -> State
+pub fn woldgrater_start() -> State
     ensures { result ≡ started }
 {
     let reader = fresh_at(Phase::First);
@@ -87,8 +86,7 @@ fn stopped_word(state: State) -> u64
 
 // Feeds the next chunk of a row file: the answers to the lines that end in it, at the start of out; or usize::MAX, and nothing changed, where out is too
 // small.
-#[unsafe(no_mangle)]
-pub extern "C" fn woldgrater_feed(
+pub fn woldgrater_feed(
     chunk: &[u8],
     out: &mut [u8],
     line: &mut [u8; 256],
@@ -130,8 +128,7 @@ fn end_file(out: &mut [u8], line: &[u8; 256], state: State) -> usize
 
 // Ends a row file: what is said of bytes after the last newline, or of a file without a first line, at the start of out; or usize::MAX, and nothing
 // written, where out is too small.
-#[unsafe(no_mangle)]
-pub extern "C" fn woldgrater_finish(out: &mut [u8], line: &[u8; 256], state: State) -> usize
+pub fn woldgrater_finish(out: &mut [u8], line: &[u8; 256], state: State) -> usize
     ensures { EndedOrRefused state line.now out.old out.new result }
 {
     if out.len() < STATUS_LENGTH {

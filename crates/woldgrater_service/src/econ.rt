@@ -28,11 +28,7 @@ pub struct EconomizerShown {
 }
 
 // What the commands of a row would be worked from. The state does not move.
-#[unsafe(no_mangle)]
-pub extern "C" fn woldgrater_econ_signals(
-    state: EconomizerWords,
-    row: EconomizerRowWords,
-) -> EconomizerShown
+pub fn woldgrater_econ_signals(state: EconomizerWords, row: EconomizerRowWords) -> EconomizerShown
     ensures { result ≡ economizer_shown (economizer_verdict (economizer_of state) (economizer_row_of row))
         (economizer_signals (economizer_of state) (economizer_row_of row)) }
 {
@@ -56,8 +52,7 @@ pub extern "C" fn woldgrater_econ_signals(
 
 // Writes the line of a row, with its newline, at the start of out: refused with 1 where a number is not finite, or else with 10 where it does not fit, and no
 // byte changes then. What is written reads back as the row.
-#[unsafe(no_mangle)]
-pub extern "C" fn woldgrater_econ_line(row: EconomizerRowWords, out: &mut [u8]) -> LineGiven
+pub fn woldgrater_econ_line(row: EconomizerRowWords, out: &mut [u8]) -> LineGiven
     ensures line_left { LineLeft (write_row econ_kind (economizer_row_of row) out.old 0) result out.new }
     ensures reads_back { ReadsBack econ_kind (economizer_row_of row) }
 {

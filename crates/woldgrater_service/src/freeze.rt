@@ -33,8 +33,7 @@ pub struct FreezeShown {
 
 // What the commands of a row would be worked from. The state does not move.
 // Beside it what is left on each timer.
-#[unsafe(no_mangle)]
-pub extern "C" fn woldgrater_freeze_signals(state: FreezeWords, row: FreezeRowWords) -> FreezeShown
+pub fn woldgrater_freeze_signals(state: FreezeWords, row: FreezeRowWords) -> FreezeShown
     ensures { result ≡ freeze_shown (freeze_verdict (freeze_of state) (freeze_row_of row))
         (freeze_left (freeze_of state) (freeze_signals (freeze_of state) (freeze_row_of row)))
         (freeze_signals (freeze_of state) (freeze_row_of row)) }
@@ -62,8 +61,7 @@ pub extern "C" fn woldgrater_freeze_signals(state: FreezeWords, row: FreezeRowWo
 
 // Writes the line of a row, with its newline, at the start of out: refused with 1 where a number is not finite, or else with 10 where it does not fit, and no
 // byte changes then. What is written reads back as the row.
-#[unsafe(no_mangle)]
-pub extern "C" fn woldgrater_freeze_line(row: FreezeRowWords, out: &mut [u8]) -> LineGiven
+pub fn woldgrater_freeze_line(row: FreezeRowWords, out: &mut [u8]) -> LineGiven
     ensures line_left { LineLeft (write_row freeze_kind (freeze_row_of row) out.old 0) result out.new }
     ensures reads_back { ReadsBack freeze_kind (freeze_row_of row) }
 {

@@ -35,8 +35,7 @@ fn play(rows: &[u8], out: &mut [u8]) -> usize
 
 // Plays a whole row file from a fresh start: its output at the start of out, and its length; or usize::MAX, and nothing written, where out is too
 // small.
-#[unsafe(no_mangle)]
-pub extern "C" fn woldgrater_play(rows: &[u8], out: &mut [u8]) -> usize
+pub fn woldgrater_play(rows: &[u8], out: &mut [u8]) -> usize
     ensures { PlayedOrRefused rows.now out.old out.new result }
 {
     if has_room(out.len(), rows.len()) {

@@ -70,8 +70,7 @@ fn relief_shown<'a>(
 }
 
 // What the commands of a row would be worked from, and what is left on each timer. The state does not move.
-#[unsafe(no_mangle)]
-pub extern "C" fn woldgrater_relief_signals<'a>(
+pub fn woldgrater_relief_signals<'a>(
     times: &'a [f64; 512],
     integrals: &'a [f64; 512],
     state: ReliefWords,
@@ -108,8 +107,7 @@ fn alarm_given(remembered: RememberedAlarm) -> AlarmGiven
 }
 
 // What a state remembers of the alarm of a fan, by its index from 0 to 3.
-#[unsafe(no_mangle)]
-pub extern "C" fn woldgrater_relief_alarm(state: ReliefWords, fan: usize) -> AlarmGiven
+pub fn woldgrater_relief_alarm(state: ReliefWords, fan: usize) -> AlarmGiven
     ensures { result ≡ alarm_given (relief_alarm (relief_blocks_of state.blocks) fan) }
 {
     let words = state.blocks;
@@ -120,8 +118,7 @@ pub extern "C" fn woldgrater_relief_alarm(state: ReliefWords, fan: usize) -> Ala
 
 // Writes the line of a row, with its newline, at the start of out: refused with 1 where a number is not finite, or else with 10 where it does not fit, and no
 // byte changes then. What is written reads back as the row.
-#[unsafe(no_mangle)]
-pub extern "C" fn woldgrater_relief_line(row: ReliefRowWords, out: &mut [u8]) -> LineGiven
+pub fn woldgrater_relief_line(row: ReliefRowWords, out: &mut [u8]) -> LineGiven
     ensures line_left { LineLeft (write_row relief_kind (relief_row_of row) out.old 0) result out.new }
     ensures reads_back { ReadsBack relief_kind (relief_row_of row) }
 {

@@ -1,0 +1,26 @@
+// Freeze protection, a call a row, in memory that the caller holds.
+ghost use Rattle.std.specs.Prelude.{◌≡◌};
+ghost use Rattle.freeze_protection.specs.Step.{freeze_fresh, freeze_row};
+ghost use Rattle.freeze_words.specs.Freeze.{freeze_words, freeze_of};
+ghost use Rattle.freeze_words.specs.FreezeRow.{freeze_row_of};
+ghost use Rattle.woldgrater.specs.Freeze.{freeze_given};
+
+use freeze_words::freeze::FreezeWords;
+use freeze_words::freeze_row::FreezeRowWords;
+use woldgrater::freeze::FreezeGiven;
+
+// The state of a start, before any row.
+#[unsafe(no_mangle)]
+pub extern "C" fn woldgrater_freeze_start() -> FreezeWords
+    ensures { result ≡ freeze_words freeze_fresh }
+{
+    woldgrater::freeze::woldgrater_freeze_start()
+}
+
+// One row: its commands and the next state, or its refusal and the old state.
+#[unsafe(no_mangle)]
+pub extern "C" fn woldgrater_freeze_row(state: FreezeWords, row: FreezeRowWords) -> FreezeGiven
+    ensures { result ≡ freeze_given (freeze_row (freeze_of state) (freeze_row_of row)) }
+{
+    woldgrater::freeze::woldgrater_freeze_row(state, row)
+}
