@@ -22,6 +22,7 @@ impl ElapsedTimerState {
     }
 
     // The seconds since u became true; 0 while it is false.
+    #[tactic(auto, unfolding(crate::specs::ElapsedTimer::elapsed_timer_output))]
     pub fn output(self, t: f64, u: bool) -> f64
         ensures { result ≡ elapsed_timer_output self t u }
     {
@@ -30,6 +31,7 @@ impl ElapsedTimerState {
         entry.elapsed(t)
     }
 
+    #[tactic(auto, unfolding(crate::specs::ElapsedTimer::elapsed_timer_update))]
     pub fn update(mut self, t: f64, u: bool) -> Self
         ensures { result ≡ elapsed_timer_update self t u }
     {

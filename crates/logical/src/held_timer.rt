@@ -27,6 +27,7 @@ impl HeldTimerState {
     }
 
     // A rise re-arms the mark, the threshold sets it, a fall clears it; else it is kept.
+    #[tactic(auto, unfolding(crate::specs::HeldTimer::held_timer_output))]
     pub fn output(self, t: f64, u: bool) -> TimerOutput
         ensures { result ≡ held_timer_output self t u }
     {
@@ -43,6 +44,7 @@ impl HeldTimerState {
         }
     }
 
+    #[tactic(auto, unfolding(crate::specs::HeldTimer::held_timer_update))]
     pub fn update(mut self, t: f64, u: bool) -> Self
         ensures { result ≡ held_timer_update self t u }
     {

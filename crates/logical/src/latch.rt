@@ -26,6 +26,7 @@ impl LatchState {
         !clear & ((u & !self.prev_u) | self.held)
     }
 
+    #[tactic(auto, unfolding(crate::specs::Latch::latch_update))]
     pub fn update(mut self, u: bool, clear: bool) -> Self
         ensures { result ≡ latch_update self u clear }
     {

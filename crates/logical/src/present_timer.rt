@@ -24,6 +24,7 @@ impl PresentTimerState {
     }
 
     // The input was true at the row before and is true here, and the elapsed time is the threshold or more.
+    #[tactic(auto, unfolding(crate::specs::PresentTimer::present_timer_output))]
     pub fn output(self, t: f64, u: bool) -> TimerOutput
         ensures { result ≡ present_timer_output self t u }
     {
@@ -35,6 +36,7 @@ impl PresentTimerState {
         }
     }
 
+    #[tactic(auto, unfolding(crate::specs::PresentTimer::present_timer_update))]
     pub fn update(mut self, t: f64, u: bool) -> Self
         ensures { result ≡ present_timer_update self t u }
     {

@@ -26,6 +26,7 @@ impl TrueDelayState {
     }
 
     // The gaps between rows since the input became true, added in order.
+    #[tactic(auto, unfolding(crate::specs::TrueDelay::true_delay_next_timer))]
     fn next_timer(self, t: f64, u: bool) -> f64
         ensures { result ≡ true_delay_next_timer self t u }
     {
@@ -35,6 +36,7 @@ impl TrueDelayState {
     }
 
     // True while the input is: on the first row at once, later from the row at which the gaps reach the delay.
+    #[tactic(auto, unfolding(crate::specs::TrueDelay::true_delay_output))]
     pub fn output(self, t: f64, u: bool, delay: f64) -> bool
         ensures { result ≡ true_delay_output self t u delay }
     {
@@ -44,6 +46,7 @@ impl TrueDelayState {
         u & (first | self.held_output | (timer >= delay))
     }
 
+    #[tactic(auto, unfolding(crate::specs::TrueDelay::true_delay_update))]
     pub fn update(mut self, t: f64, u: bool, delay: f64) -> Self
         ensures { result ≡ true_delay_update self t u delay }
     {

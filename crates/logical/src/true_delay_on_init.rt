@@ -31,6 +31,7 @@ impl TrueDelayOnInitState {
         u & !entry.never() & (entry.elapsed(t) >= self.delay_time)
     }
 
+    #[tactic(auto, unfolding(crate::specs::TrueDelayOnInit::true_delay_on_init_update))]
     pub fn update(mut self, t: f64, u: bool) -> Self
         ensures { result ≡ true_delay_on_init_update self t u }
     {

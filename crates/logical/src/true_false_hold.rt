@@ -36,6 +36,7 @@ impl TrueFalseHoldState {
     }
 
     // The output, and the time since it last changed: the gaps between rows, added in order.
+    #[tactic(auto, unfolding(crate::specs::TrueFalseHold::true_false_hold_output_and_timer, crate::specs::TrueFalseHold::true_false_hold_required))]
     pub fn output_and_timer(self, t: f64, u: bool) -> TrueFalseHoldOutput
         ensures { result ≡ true_false_hold_output_and_timer self t u }
     {
@@ -52,12 +53,14 @@ impl TrueFalseHoldState {
         }
     }
 
+    #[tactic(auto, unfolding(crate::specs::TrueFalseHold::true_false_hold_output))]
     pub fn output(self, t: f64, u: bool) -> bool
         ensures { result ≡ true_false_hold_output self t u }
     {
         self.output_and_timer(t, u).y
     }
 
+    #[tactic(auto, unfolding(crate::specs::TrueFalseHold::true_false_hold_update))]
     pub fn update(mut self, t: f64, u: bool) -> Self
         ensures { result ≡ true_false_hold_update self t u }
     {
