@@ -49,7 +49,7 @@ def arguments(name, number_name, number, words):
         if kind not in KINDS:
             sys.exit(f'compare/{name}: no such kind: {kind}')
     if stale(path):
-        print(f'compare/{name}: warning: {program} is older than the code below crates/ (rt check rows makes it anew)',
+        print(f'compare/{name}: warning: {program} is older than the code below crates/ (tools/build rows makes it anew)',
               file=sys.stderr)
     return path, number, rest or KINDS
 
