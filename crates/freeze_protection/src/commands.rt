@@ -6,12 +6,14 @@ use crate::types::{FreezeCommands, FreezeRow, FreezeSignals};
 use reals::switch::switch;
 
 // CDL.Integers.Switch.
+#[tactic(auto, unfolding(crate::specs::Commands::integer_switch))]
 pub fn integer_switch(u: bool, a: u64, b: u64) -> u64
     ensures { result ≡ integer_switch u a b }
 {
     if u { a } else { b }
 }
 
+#[tactic(auto, unfolding(crate::specs::Commands::freeze_commands))]
 pub fn freeze_commands(row: FreezeRow, signals: FreezeSignals) -> FreezeCommands
     ensures { result ≡ freeze_commands row signals }
 {

@@ -5,6 +5,7 @@ ghost use Rattle.freeze_protection.specs.Left.{freeze_left};
 use crate::types::{FreezeLeft, FreezeSignals, FreezeState};
 
 // The seconds left on each timer at a row with these signals, by the state that the row was handed to.
+#[tactic(auto, unfolding(crate::specs::Left::freeze_left))]
 pub fn freeze_left(state: FreezeState, signals: FreezeSignals) -> FreezeLeft
     ensures { result ≡ freeze_left state signals }
 {

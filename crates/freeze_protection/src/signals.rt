@@ -7,6 +7,7 @@ use crate::types::{FreezeCalls, FreezeRow, FreezeSignals, FreezeState};
 use reals::order::greater;
 
 // The thresholds, the timers on them, the recovery edge and the hold of stage 2.
+#[tactic(auto, unfolding(crate::specs::Signals::freeze_calls))]
 pub fn freeze_calls(state: FreezeState, row: FreezeRow) -> FreezeCalls
     ensures { result ≡ freeze_calls state row }
 {
@@ -50,6 +51,7 @@ pub fn freeze_calls(state: FreezeState, row: FreezeRow) -> FreezeCalls
 }
 
 // Stage 3 before 2 before 1, else 0.
+#[tactic(auto, unfolding(crate::specs::Signals::stage_number))]
 pub fn stage_number(three: bool, two: bool, one: bool) -> u64
     ensures { result ≡ stage_number three two one }
 {
@@ -62,6 +64,7 @@ pub fn stage_number(three: bool, two: bool, one: bool) -> u64
     if one { 1 } else { 0 }
 }
 
+#[tactic(auto, unfolding(crate::specs::Signals::freeze_signals))]
 pub fn freeze_signals(state: FreezeState, row: FreezeRow) -> FreezeSignals
     ensures { result ≡ freeze_signals state row }
 {

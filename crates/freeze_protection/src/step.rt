@@ -20,6 +20,7 @@ use reals::threshold::ThresholdState;
 use refusals::Verdict;
 
 // The state of a start, before any row.
+#[tactic(auto, unfolding(crate::specs::Step::freeze_fresh))]
 pub fn freeze_fresh() -> FreezeState
     ensures { result ≡ freeze_fresh }
 {
@@ -47,6 +48,7 @@ pub fn freeze_fresh() -> FreezeState
 }
 
 // The state after an accepted row with these signals: every block is updated.
+#[tactic(auto, unfolding(crate::specs::Step::freeze_next))]
 pub fn freeze_next(state: FreezeState, row: FreezeRow, signals: FreezeSignals) -> FreezeState
     ensures { result ≡ freeze_next state row signals }
 {
@@ -95,6 +97,7 @@ pub fn freeze_next(state: FreezeState, row: FreezeRow, signals: FreezeSignals) -
 }
 
 // One row: its commands and the next state, or its refusal and the old state.
+#[tactic(auto, unfolding(crate::specs::Step::freeze_row, crate::specs::Step::step_by))]
 pub fn freeze_row(state: FreezeState, row: FreezeRow) -> FreezeStep
     ensures { result ≡ freeze_row state row }
 {

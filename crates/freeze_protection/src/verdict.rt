@@ -7,6 +7,7 @@ use reals::sign::is_finite;
 use refusals::{Verdict, judge};
 
 // Every number of the row, its time included, is finite.
+#[tactic(auto, unfolding(crate::specs::Verdict::numbers_finite))]
 pub fn numbers_finite(row: FreezeRow) -> bool
     ensures { result ≡ numbers_finite row }
 {
@@ -23,6 +24,7 @@ pub fn numbers_finite(row: FreezeRow) -> bool
 }
 
 // Refusals 1, 2 and 3.
+#[tactic(auto, unfolding(crate::specs::Verdict::freeze_verdict))]
 pub fn freeze_verdict(state: FreezeState, row: FreezeRow) -> Verdict
     ensures { result ≡ freeze_verdict state row }
 {
