@@ -15,19 +15,20 @@ ECON = [
     ('proofs.freeze.', 'proofs.econ.'),
     ('freeze_lines::freeze', 'econ_lines::econ'),
     ('freeze_lines', 'econ_lines'),
+    ('{freeze_words', '{economizer_words'),
+    (' freeze_words ', ' economizer_words '),
     ('freeze_words', 'econ_words'),
     ('write_freeze_row', 'write_econ_row'),
     ('write-freeze-row', 'write-econ-row'),
-    ('freezeKind', 'econKind'),
+    ('freeze_kind', 'econ_kind'),
     ('woldgrater_freeze', 'woldgrater_econ'),
-    ('woldgrater-freeze', 'woldgrater-econ'),
     ('Freeze protection', 'The economizer'),
     ('freeze protection', 'the economizer'),
     ('Freeze', 'Economizer'),
     ('freeze', 'economizer'),
 ]
 # lines that speak of what is left on freeze protection's timers: the economizer has none
-TIMERS = re.compile('(?<!Line)[Ll]eft')
+TIMERS = re.compile('(?<!Line)(?<!line_)[Ll]eft')
 # the files that are written so: what they are written from, the names, and which lines are passed over
 FILES = {
     'woldgrater/src/econ.rt': ('woldgrater/src/freeze.rt', ECON),

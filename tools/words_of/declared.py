@@ -3,7 +3,7 @@
 import os
 import re
 
-DECLARED = re.compile(r'(?m)^((?://.*\n)*)(?:#\[repr\(C\)\]\n)?pub (struct|enum) (\w+) \{\n((?:    .*\n)*)\}')
+DECLARED = re.compile(r'(?m)^((?://.*\n)*)(?:#\[(?:repr|derive)\(.*\)\]\n)*pub (struct|enum) (\w+) \{\n((?:    .*\n)*)\}')
 PLAIN = {'f64': '0.0', 'u64': '0', 'usize': '0', 'i64': '0', 'i8': '0'}
 
 
@@ -17,8 +17,7 @@ class Type:
         self.words = self.base + 'Words'
         self.file = snake(self.base)
         self.page = self.base
-        lower = self.base[0].lower() + self.base[1:]
-        self.to, self.back, self.zero, self.law = lower + 'Words', lower + 'Of', lower + 'Zero', self.file.replace('_', '-') + '-back'
+        self.to, self.back, self.zero, self.law = (f'{self.file}_{ending}' for ending in ('words', 'of', 'zero', 'back'))
 
 
 def snake(name):

@@ -1,14 +1,11 @@
 """What the words of a type are called, and where they stand."""
 
+import re
+
 from . import declared
 
 COUNTS = {2: 'two', 4: 'four'}
 MADE = 'Written by tools/words.'
-
-
-def quoted(name):
-    """A name as antt writes it."""
-    return f'«{name}»' if '_' in name else name
 
 
 def held(kind):
@@ -27,7 +24,12 @@ def word_fields(kind):
 
 def order(line):
     """The library's names before the repository's, and of these the declared types first."""
-    return ('Rattle·' in line, '.declared.' not in line, line)
+    return ('use Rattle.std.' not in line and 'use mathlib.' not in line, '.declared.' not in line, line)
+
+
+def applied(name, text):
+    """A definition at an argument."""
+    return f'{name} {text}' if re.fullmatch(r"[\w.]+", text) else f'{name} ({text})'
 
 
 class Names:
@@ -43,19 +45,17 @@ class Names:
 
     def page(self, kind):
         """The page of a type's definitions, as seen from this crate."""
-        home = self.home(kind)
-        return f'Rattle·{home}·specs.specs.{kind.page}' if home == self.crate else f'Rattle·{home}.specs.{kind.page}'
+        return f'Rattle.{self.home(kind)}.specs.{kind.page}'
 
     def flags_page(self):
-        return 'Rattle·block_words·specs.specs.Flags' if self.crate == 'block_words' else 'Rattle·block_words.specs.Flags'
+        return 'Rattle.block_words.specs.Flags'
 
     def laws(self, kind):
-        home = self.home(kind)
-        return f'Rattle·{home}·proofs.proofs.Back' if home == self.crate else f'Rattle·{home}.proofs.Back'
+        return f'Rattle.{self.home(kind)}.proofs.Back'
 
     def elements(self):
         """The page of the laws of flags and of lists."""
-        return 'Rattle·block_words·proofs.proofs.Elements' if self.crate == 'block_words' else 'Rattle·block_words.proofs.Elements'
+        return 'Rattle.block_words.proofs.Elements'
 
     def module(self, kind):
         """The module of a type's words in src."""
@@ -71,12 +71,10 @@ class Names:
 
     def declared(self, kind):
         module = f'.{kind.module}' if kind.module else ''
-        return f'Rattle·{kind.crate}.specs.declared{module}.{kind.name}'
+        return f'Rattle.{kind.crate}.specs.declared{module}.{kind.name}'
 
     def words_declared(self, kind):
-        home = self.home(kind)
-        own = f'Rattle·{home}·specs.specs' if home == self.crate else f'Rattle·{home}.specs'
-        return f'{own}.declared.{kind.file}.{kind.words}'
+        return f'Rattle.{self.home(kind)}.specs.declared.{kind.file}.{kind.words}'
 
     # ---- the parts of a field
 
@@ -108,13 +106,13 @@ class Names:
         found = declared.array(part)
         one = declared.element(part)
         if one == 'f64':
-            text = 'plusZero'
+            text = 'plus_zero'
         elif one in ('i64', 'i8'):
             text = 'pos 0'
         elif one in declared.PLAIN or one == 'bool':
             text = '0'
         elif self.types[one].variants:
-            text = 'record { ' + '; '.join(f'{quoted(name)} = {self.zero_spec(kept)}' for name, kept in held(self.types[one])) + ' }'
+            text = 'record { ' + '; '.join(f'{name} = {self.zero_spec(kept)}' for name, kept in held(self.types[one])) + ' }'
         else:
             text = self.types[one].zero
         if found:
@@ -122,7 +120,7 @@ class Names:
         return text
 
     def call(self, part, what):
-        """The function that a part goes through, as src calls it, and its name in a proof; None for a part that stays as it is."""
+        """The function that a part goes through, as src calls it; None for a part that stays as it is."""
         found = declared.array(part)
         one = declared.element(part)
         if one in declared.PLAIN:
@@ -130,11 +128,11 @@ class Names:
         if found:
             base = 'flag' if one == 'bool' else self.types[one].file
             name = f'{base}_{"words" if what == "of" else "values"}_of_{COUNTS[found[1]]}'
-            return name + '({})', name.replace('_', '-')
+            return name + '({})'
         if one == 'bool':
             name = 'flag_word' if what == 'of' else 'word_flag'
-            return name + '({})', name.replace('_', '-')
-        return (self.types[one].words + '::of({})', 'of') if what == 'of' else ('{}.value()', 'value')
+            return name + '({})'
+        return self.types[one].words + '::of({})' if what == 'of' else '{}.value()'
 
     def spec_call(self, part, what, text):
         """What a part becomes, as a definition says it."""
@@ -142,17 +140,17 @@ class Names:
         if one in declared.PLAIN:
             return text
         if one == 'bool':
-            name = 'flagWord' if what == 'of' else 'wordFlag'
+            name = 'flag_word' if what == 'of' else 'word_flag'
         else:
             name = self.types[one].to if what == 'of' else self.types[one].back
-        return f'map {name} ({text})' if declared.array(part) else f'{name} ({text})'
+        return applied(f'map {name}' if declared.array(part) else name, text)
 
     def law_of(self, part, text):
         """The proof that the words of a part stand for it, along i."""
         one = declared.element(part)
         if one in declared.PLAIN:
             return text
-        names = ('flagWord', 'wordFlag', 'flag-back') if one == 'bool' else (self.types[one].to, self.types[one].back, self.types[one].law)
+        names = ('flag_word', 'word_flag', 'flag_back') if one == 'bool' else (self.types[one].to, self.types[one].back, self.types[one].law)
         if declared.array(part):
-            return f'each-back {names[0]} {names[1]} {names[2]} ({text}) i'
-        return f'{names[2]} ({text}) i'
+            return applied(f'each_back {names[0]} {names[1]} {names[2]}', text) + ' i'
+        return applied(names[2], text) + ' i'

@@ -4,6 +4,15 @@ from . import declared
 from .names import MADE, Names, held, word_fields
 
 
+def grouped(paths):
+    """`use` lines, those of one module together."""
+    modules = {}
+    for path in paths:
+        module, name = path.rsplit('::', 1)
+        modules.setdefault(module, []).append(name)
+    return [f'use {module}::{names[0]};' if len(names) == 1 else f'use {module}::{{{", ".join(names)}}};' for module, names in modules.items()]
+
+
 class Sources(Names):
     def uses(self, kind, asked):
         """The `use` lines of a type's source."""
@@ -16,17 +25,15 @@ class Sources(Names):
             if one != 'bool':
                 found.add(f'{module}::{self.types[one].words}')
             if one == 'bool' or declared.array(part):
-                found |= {f'{module}::' + self.call(part, what)[0].split('(')[0] for what in asked - {'zero'}}
+                found |= {f'{module}::' + self.call(part, what).split('(')[0] for what in asked - {'zero'}}
         return sorted(found, key=lambda path: (not path.startswith('crate::'), path))
 
     def source(self, kind, asked, mine):
         names = [name for what, name in (('of', kind.to), ('value', kind.back), ('zero', kind.zero)) if what in asked]
-        lines = [f'// `{kind.name}` of {kind.crate} as words. {MADE}', 'ghost use mathlib.Core.Path.{_≡_};']
-        if mine:
-            lines.append('ghost use mathlib.Core.List.{map};')
-        lines.append(f'ghost use Rattle·{self.crate}·specs.specs.{kind.page}.{{{", ".join(names)}}};')
-        lines += [f'use {path};' for path in self.uses(kind, asked)]
-        lines += ['', '#[repr(C)]', f'pub struct {kind.words} {{']
+        lines = [f'// `{kind.name}` of {kind.crate} as words. {MADE}', 'ghost use Rattle.std.specs.Prelude.{' + ('◌≡◌, map' if mine else '◌≡◌') + '};']
+        lines += [f'ghost use Rattle.{self.crate}.specs.{kind.page}.{{{", ".join(names)}}};', '']
+        lines += grouped(self.uses(kind, asked))
+        lines += ['', '#[repr(C)]', '#[derive(Clone, Copy)]', f'pub struct {kind.words} {{']
         lines += [f'    pub {name}: {self.words_type(part)},' for name, part in (held(kind) if kind.variants else word_fields(kind))]
         lines += ['}', '', f'impl {kind.words} {{']
         bodies = []
@@ -40,6 +47,10 @@ class Sources(Names):
         for length, what in mine:
             lines += ['', self.array_source(kind, length, what)]
         return '\n'.join(lines) + '\n'
+
+    def tactic(self, kind, name):
+        """The definition that a function's proof opens; the rest is found."""
+        return f'    #[tactic(auto, unfolding(crate::specs::{kind.page}::{name}))]'
 
     def copies(self, owner, fields):
         """A field that is no number is copied before it is handed on."""
@@ -55,22 +66,22 @@ class Sources(Names):
             copied = declared.array(part) or declared.element(part) not in (*declared.PLAIN, 'bool')
             text = name if copied else f'{owner}.{name}'
             if call:
-                text = call[0].format(text)
+                text = call.format(text)
             lines.append(f'            {name},' if text == name else f'            {name}: {text},')
         return lines
 
     def of_struct(self, kind):
-        lines = [f'    pub fn of(value: {kind.name}) -> Self', f'        ensures {{ λ r. ⌜ r ≡ {kind.to} value ⌝ }}', '    {']
+        lines = [self.tactic(kind, kind.to), f'    pub fn of(value: {kind.name}) -> Self', f'        ensures {{ result ≡ {kind.to} value }}', '    {']
         lines += self.copies('value', kind.fields)
         return '\n'.join(lines + [f'        {kind.words} {{', *self.fields_made('value', kind, 'of'), '        }', '    }'])
 
     def value_struct(self, kind):
-        lines = [f'    pub fn value(self) -> {kind.name}', f'        ensures {{ λ r. ⌜ r ≡ {kind.back} self ⌝ }}', '    {']
+        lines = [self.tactic(kind, kind.back), f'    pub fn value(self) -> {kind.name}', f'        ensures {{ result ≡ {kind.back} self }}', '    {']
         lines += self.copies('self', kind.fields)
         return '\n'.join(lines + [f'        {kind.name} {{', *self.fields_made('self', kind, 'value'), '        }', '    }'])
 
     def zero_struct(self, kind):
-        lines = ['    pub fn zero() -> Self', f'        ensures {{ λ r. ⌜ r ≡ {kind.zero} ⌝ }}', '    {', f'        {kind.words} {{']
+        lines = [self.tactic(kind, kind.zero), '    pub fn zero() -> Self', f'        ensures {{ result ≡ {kind.zero} }}', '    {', f'        {kind.words} {{']
         for name, part in word_fields(kind):
             one = declared.element(part)
             text = f'{self.types[one].words}::zero()' if one in self.types and not declared.array(part) else self.zero_of(part)
@@ -78,15 +89,15 @@ class Sources(Names):
         return '\n'.join(lines + ['        }', '    }'])
 
     def of_enum(self, kind):
-        lines = ['    // The number of the variant, and what it holds; 0 for what the others would.', f'    pub fn of(value: {kind.name}) -> Self',
-                 f'        ensures {{ λ r. ⌜ r ≡ {kind.to} value ⌝ }}', '    {', '        match value {']
+        lines = ['    // The number of the variant, and what it holds; 0 for what the others would.', self.tactic(kind, kind.to), f'    pub fn of(value: {kind.name}) -> Self',
+                 f'        ensures {{ result ≡ {kind.to} value }}', '    {', '        match value {']
         for at, (name, part) in enumerate(kind.variants):
             name_held = declared.snake(name)
             fields = [f'variant: {at}']
             for other, its in kind.variants:
                 if its and other == name:
                     call = self.call(its, 'of')
-                    fields.append(f'{name_held}: {call[0].format(name_held)}' if call else name_held)
+                    fields.append(f'{name_held}: {call.format(name_held)}' if call else name_held)
                 elif its:
                     fields.append(f'{declared.snake(other)}: {self.zero_of(its)}')
             pattern = f'{kind.name}::{name}({name_held})' if part else f'{kind.name}::{name}'
@@ -95,15 +106,15 @@ class Sources(Names):
 
     def value_enum(self, kind):
         last = kind.variants[-1][0]
-        lines = [f'    // A number that no variant has is read as `{last}`.', f'    pub fn value(self) -> {kind.name}',
-                 f'        ensures {{ λ r. ⌜ r ≡ {kind.back} self ⌝ }}', '    {']
+        lines = [f'    // A number that no variant has is read as `{last}`.', self.tactic(kind, kind.back), f'    pub fn value(self) -> {kind.name}',
+                 f'        ensures {{ result ≡ {kind.back} self }}', '    {']
         lines.append('        let variant = self.variant;')
         lines += self.copies('self', held(kind))
         for at, (name, part) in enumerate(kind.variants):
             text = f'{kind.name}::{name}'
             if part:
                 call = self.call(part, 'value')
-                text += f'({call[0].format(declared.snake(name))})' if call else f'(self.{declared.snake(name)})'
+                text += f'({call.format(declared.snake(name))})' if call else f'(self.{declared.snake(name)})'
             if name == last:
                 lines.append(f'        {text}')
             else:
@@ -111,11 +122,11 @@ class Sources(Names):
         return '\n'.join(lines + ['    }'])
 
     def array_source(self, kind, length, what):
-        name = self.call(f'[{kind.name}; {length}]', what)[0].split('(')[0]
+        name = self.call(f'[{kind.name}; {length}]', what).split('(')[0]
         given, made = (kind.name, kind.words) if what == 'of' else (kind.words, kind.name)
         argument, function = ('values', kind.to) if what == 'of' else ('words', kind.back)
         call = f'{kind.words}::of({{}})' if what == 'of' else '{}.value()'
         places = ['first', 'second', 'third', 'fourth'][:length]
-        lines = [f'pub fn {name}({argument}: [{given}; {length}]) -> [{made}; {length}]', f'    ensures {{ λ r. ⌜ r ≡ map {function} {argument} ⌝ }}', '{']
+        lines = [f'pub fn {name}({argument}: [{given}; {length}]) -> [{made}; {length}]', f'    ensures {{ result ≡ map {function} {argument} }}', '{']
         lines += [f'    let {place} = {argument}[{at}];' for at, place in enumerate(places)]
         return '\n'.join(lines + ['    [' + ', '.join(call.format(place) for place in places) + ']', '}'])

@@ -12,6 +12,7 @@ pub struct EdgeWords {
 }
 
 impl EdgeWords {
+    #[tactic(auto, unfolding(crate::specs::Edge::edge_words))]
     pub fn of(value: EdgeState) -> Self
         ensures { result ≡ edge_words value }
     {
@@ -20,6 +21,7 @@ impl EdgeWords {
         }
     }
 
+    #[tactic(auto, unfolding(crate::specs::Edge::edge_of))]
     pub fn value(self) -> EdgeState
         ensures { result ≡ edge_of self }
     {

@@ -16,6 +16,7 @@ pub struct HeldTimerWords {
 }
 
 impl HeldTimerWords {
+    #[tactic(auto, unfolding(crate::specs::HeldTimer::held_timer_words))]
     pub fn of(value: HeldTimerState) -> Self
         ensures { result ≡ held_timer_words value }
     {
@@ -28,6 +29,7 @@ impl HeldTimerWords {
         }
     }
 
+    #[tactic(auto, unfolding(crate::specs::HeldTimer::held_timer_of))]
     pub fn value(self) -> HeldTimerState
         ensures { result ≡ held_timer_of self }
     {

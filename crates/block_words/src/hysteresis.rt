@@ -12,6 +12,7 @@ pub struct HysteresisWords {
 }
 
 impl HysteresisWords {
+    #[tactic(auto, unfolding(crate::specs::Hysteresis::hysteresis_words))]
     pub fn of(value: HysteresisState) -> Self
         ensures { result ≡ hysteresis_words value }
     {
@@ -20,6 +21,7 @@ impl HysteresisWords {
         }
     }
 
+    #[tactic(auto, unfolding(crate::specs::Hysteresis::hysteresis_of))]
     pub fn value(self) -> HysteresisState
         ensures { result ≡ hysteresis_of self }
     {

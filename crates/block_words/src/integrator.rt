@@ -15,6 +15,7 @@ pub struct IntegratorWords {
 }
 
 impl IntegratorWords {
+    #[tactic(auto, unfolding(crate::specs::Integrator::integrator_words))]
     pub fn of(value: Integrator) -> Self
         ensures { result ≡ integrator_words value }
     {
@@ -27,6 +28,7 @@ impl IntegratorWords {
         }
     }
 
+    #[tactic(auto, unfolding(crate::specs::Integrator::integrator_of))]
     pub fn value(self) -> Integrator
         ensures { result ≡ integrator_of self }
     {

@@ -13,6 +13,7 @@ pub struct LatchWords {
 }
 
 impl LatchWords {
+    #[tactic(auto, unfolding(crate::specs::Latch::latch_words))]
     pub fn of(value: LatchState) -> Self
         ensures { result ≡ latch_words value }
     {
@@ -22,6 +23,7 @@ impl LatchWords {
         }
     }
 
+    #[tactic(auto, unfolding(crate::specs::Latch::latch_of))]
     pub fn value(self) -> LatchState
         ensures { result ≡ latch_of self }
     {

@@ -13,6 +13,7 @@ pub struct PidWords {
 }
 
 impl PidWords {
+    #[tactic(auto, unfolding(crate::specs::Pid::pid_words))]
     pub fn of(value: PidState) -> Self
         ensures { result ≡ pid_words value }
     {
@@ -23,6 +24,7 @@ impl PidWords {
         }
     }
 
+    #[tactic(auto, unfolding(crate::specs::Pid::pid_of))]
     pub fn value(self) -> PidState
         ensures { result ≡ pid_of self }
     {

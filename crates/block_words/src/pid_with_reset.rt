@@ -15,6 +15,7 @@ pub struct PidWithResetWords {
 }
 
 impl PidWithResetWords {
+    #[tactic(auto, unfolding(crate::specs::PidWithReset::pid_with_reset_words))]
     pub fn of(value: PidWithResetState) -> Self
         ensures { result ≡ pid_with_reset_words value }
     {
@@ -26,6 +27,7 @@ impl PidWithResetWords {
         }
     }
 
+    #[tactic(auto, unfolding(crate::specs::PidWithReset::pid_with_reset_of))]
     pub fn value(self) -> PidWithResetState
         ensures { result ≡ pid_with_reset_of self }
     {

@@ -12,6 +12,7 @@ pub struct PreWords {
 }
 
 impl PreWords {
+    #[tactic(auto, unfolding(crate::specs::Pre::pre_words))]
     pub fn of(value: PreState) -> Self
         ensures { result ≡ pre_words value }
     {
@@ -20,6 +21,7 @@ impl PreWords {
         }
     }
 
+    #[tactic(auto, unfolding(crate::specs::Pre::pre_of))]
     pub fn value(self) -> PreState
         ensures { result ≡ pre_of self }
     {

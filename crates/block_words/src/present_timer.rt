@@ -15,6 +15,7 @@ pub struct PresentTimerWords {
 }
 
 impl PresentTimerWords {
+    #[tactic(auto, unfolding(crate::specs::PresentTimer::present_timer_words))]
     pub fn of(value: PresentTimerState) -> Self
         ensures { result ≡ present_timer_words value }
     {
@@ -26,6 +27,7 @@ impl PresentTimerWords {
         }
     }
 
+    #[tactic(auto, unfolding(crate::specs::PresentTimer::present_timer_of))]
     pub fn value(self) -> PresentTimerState
         ensures { result ≡ present_timer_of self }
     {

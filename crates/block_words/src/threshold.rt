@@ -16,6 +16,7 @@ pub struct ThresholdWords {
 }
 
 impl ThresholdWords {
+    #[tactic(auto, unfolding(crate::specs::Threshold::threshold_words))]
     pub fn of(value: ThresholdState) -> Self
         ensures { result ≡ threshold_words value }
     {
@@ -28,6 +29,7 @@ impl ThresholdWords {
         }
     }
 
+    #[tactic(auto, unfolding(crate::specs::Threshold::threshold_of))]
     pub fn value(self) -> ThresholdState
         ensures { result ≡ threshold_of self }
     {

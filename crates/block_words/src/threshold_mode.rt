@@ -12,6 +12,7 @@ pub struct ThresholdModeWords {
 
 impl ThresholdModeWords {
     // The number of the variant, and what it holds; 0 for what the others would.
+    #[tactic(auto, unfolding(crate::specs::ThresholdMode::threshold_mode_words))]
     pub fn of(value: ThresholdMode) -> Self
         ensures { result ≡ threshold_mode_words value }
     {
@@ -22,6 +23,7 @@ impl ThresholdModeWords {
     }
 
     // A number that no variant has is read as `Less`.
+    #[tactic(auto, unfolding(crate::specs::ThresholdMode::threshold_mode_of))]
     pub fn value(self) -> ThresholdMode
         ensures { result ≡ threshold_mode_of self }
     {

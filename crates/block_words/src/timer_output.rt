@@ -13,6 +13,7 @@ pub struct TimerOutputWords {
 }
 
 impl TimerOutputWords {
+    #[tactic(auto, unfolding(crate::specs::TimerOutput::timer_output_words))]
     pub fn of(value: TimerOutput) -> Self
         ensures { result ≡ timer_output_words value }
     {
@@ -22,6 +23,7 @@ impl TimerOutputWords {
         }
     }
 
+    #[tactic(auto, unfolding(crate::specs::TimerOutput::timer_output_zero))]
     pub fn zero() -> Self
         ensures { result ≡ timer_output_zero }
     {

@@ -16,6 +16,7 @@ pub struct TrueDelayWords {
 }
 
 impl TrueDelayWords {
+    #[tactic(auto, unfolding(crate::specs::TrueDelay::true_delay_words))]
     pub fn of(value: TrueDelayState) -> Self
         ensures { result ≡ true_delay_words value }
     {
@@ -28,6 +29,7 @@ impl TrueDelayWords {
         }
     }
 
+    #[tactic(auto, unfolding(crate::specs::TrueDelay::true_delay_of))]
     pub fn value(self) -> TrueDelayState
         ensures { result ≡ true_delay_of self }
     {

@@ -15,6 +15,7 @@ pub struct TrueDelayOnInitWords {
 }
 
 impl TrueDelayOnInitWords {
+    #[tactic(auto, unfolding(crate::specs::TrueDelayOnInit::true_delay_on_init_words))]
     pub fn of(value: TrueDelayOnInitState) -> Self
         ensures { result ≡ true_delay_on_init_words value }
     {
@@ -26,6 +27,7 @@ impl TrueDelayOnInitWords {
         }
     }
 
+    #[tactic(auto, unfolding(crate::specs::TrueDelayOnInit::true_delay_on_init_of))]
     pub fn value(self) -> TrueDelayOnInitState
         ensures { result ≡ true_delay_on_init_of self }
     {

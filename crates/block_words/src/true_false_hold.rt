@@ -17,6 +17,7 @@ pub struct TrueFalseHoldWords {
 }
 
 impl TrueFalseHoldWords {
+    #[tactic(auto, unfolding(crate::specs::TrueFalseHold::true_false_hold_words))]
     pub fn of(value: TrueFalseHoldState) -> Self
         ensures { result ≡ true_false_hold_words value }
     {
@@ -30,6 +31,7 @@ impl TrueFalseHoldWords {
         }
     }
 
+    #[tactic(auto, unfolding(crate::specs::TrueFalseHold::true_false_hold_of))]
     pub fn value(self) -> TrueFalseHoldState
         ensures { result ≡ true_false_hold_of self }
     {

@@ -15,6 +15,7 @@ pub struct DamperLimitsWords {
 }
 
 impl DamperLimitsWords {
+    #[tactic(auto, unfolding(crate::specs::DamperLimits::damper_limits_words))]
     pub fn of(value: DamperLimits) -> Self
         ensures { result ≡ damper_limits_words value }
     {
@@ -27,6 +28,7 @@ impl DamperLimitsWords {
         }
     }
 
+    #[tactic(auto, unfolding(crate::specs::DamperLimits::damper_limits_zero))]
     pub fn zero() -> Self
         ensures { result ≡ damper_limits_zero }
     {

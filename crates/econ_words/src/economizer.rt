@@ -16,6 +16,7 @@ pub struct EconomizerWords {
 }
 
 impl EconomizerWords {
+    #[tactic(auto, unfolding(crate::specs::Economizer::economizer_words))]
     pub fn of(value: EconomizerState) -> Self
         ensures { result ≡ economizer_words value }
     {
@@ -29,6 +30,7 @@ impl EconomizerWords {
         }
     }
 
+    #[tactic(auto, unfolding(crate::specs::Economizer::economizer_of))]
     pub fn value(self) -> EconomizerState
         ensures { result ≡ economizer_of self }
     {

@@ -15,6 +15,7 @@ pub struct EconomizerCommandsWords {
 }
 
 impl EconomizerCommandsWords {
+    #[tactic(auto, unfolding(crate::specs::EconomizerCommands::economizer_commands_words))]
     pub fn of(value: EconomizerCommands) -> Self
         ensures { result ≡ economizer_commands_words value }
     {
@@ -26,6 +27,7 @@ impl EconomizerCommandsWords {
         }
     }
 
+    #[tactic(auto, unfolding(crate::specs::EconomizerCommands::economizer_commands_zero))]
     pub fn zero() -> Self
         ensures { result ≡ economizer_commands_zero }
     {

@@ -19,6 +19,7 @@ pub struct EconomizerRowWords {
 }
 
 impl EconomizerRowWords {
+    #[tactic(auto, unfolding(crate::specs::EconomizerRow::economizer_row_of))]
     pub fn value(self) -> EconomizerRow
         ensures { result ≡ economizer_row_of self }
     {

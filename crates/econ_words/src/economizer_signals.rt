@@ -19,6 +19,7 @@ pub struct EconomizerSignalsWords {
 }
 
 impl EconomizerSignalsWords {
+    #[tactic(auto, unfolding(crate::specs::EconomizerSignals::economizer_signals_words))]
     pub fn of(value: EconomizerSignals) -> Self
         ensures { result ≡ economizer_signals_words value }
     {
@@ -34,6 +35,7 @@ impl EconomizerSignalsWords {
         }
     }
 
+    #[tactic(auto, unfolding(crate::specs::EconomizerSignals::economizer_signals_zero))]
     pub fn zero() -> Self
         ensures { result ≡ economizer_signals_zero }
     {

@@ -17,6 +17,7 @@ pub struct EnableWords {
 }
 
 impl EnableWords {
+    #[tactic(auto, unfolding(crate::specs::Enable::enable_words))]
     pub fn of(value: EnableState) -> Self
         ensures { result ≡ enable_words value }
     {
@@ -32,6 +33,7 @@ impl EnableWords {
         }
     }
 
+    #[tactic(auto, unfolding(crate::specs::Enable::enable_of))]
     pub fn value(self) -> EnableState
         ensures { result ≡ enable_of self }
     {

@@ -13,6 +13,7 @@ pub struct EnableLimitsWords {
 }
 
 impl EnableLimitsWords {
+    #[tactic(auto, unfolding(crate::specs::EnableLimits::enable_limits_words))]
     pub fn of(value: EnableLimits) -> Self
         ensures { result ≡ enable_limits_words value }
     {
@@ -23,6 +24,7 @@ impl EnableLimitsWords {
         }
     }
 
+    #[tactic(auto, unfolding(crate::specs::EnableLimits::enable_limits_zero))]
     pub fn zero() -> Self
         ensures { result ≡ enable_limits_zero }
     {

@@ -17,6 +17,7 @@ pub struct EnableSignalsWords {
 }
 
 impl EnableSignalsWords {
+    #[tactic(auto, unfolding(crate::specs::EnableSignals::enable_signals_words))]
     pub fn of(value: EnableSignals) -> Self
         ensures { result ≡ enable_signals_words value }
     {
@@ -30,6 +31,7 @@ impl EnableSignalsWords {
         }
     }
 
+    #[tactic(auto, unfolding(crate::specs::EnableSignals::enable_signals_zero))]
     pub fn zero() -> Self
         ensures { result ≡ enable_signals_zero }
     {

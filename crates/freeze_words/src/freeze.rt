@@ -36,6 +36,7 @@ pub struct FreezeWords {
 }
 
 impl FreezeWords {
+    #[tactic(auto, unfolding(crate::specs::Freeze::freeze_words))]
     pub fn of(value: FreezeState) -> Self
         ensures { result ≡ freeze_words value }
     {
@@ -81,6 +82,7 @@ impl FreezeWords {
         }
     }
 
+    #[tactic(auto, unfolding(crate::specs::Freeze::freeze_of))]
     pub fn value(self) -> FreezeState
         ensures { result ≡ freeze_of self }
     {

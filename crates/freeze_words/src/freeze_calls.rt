@@ -23,6 +23,7 @@ pub struct FreezeCallsWords {
 }
 
 impl FreezeCallsWords {
+    #[tactic(auto, unfolding(crate::specs::FreezeCalls::freeze_calls_words))]
     pub fn of(value: FreezeCalls) -> Self
         ensures { result ≡ freeze_calls_words value }
     {
@@ -46,6 +47,7 @@ impl FreezeCallsWords {
         }
     }
 
+    #[tactic(auto, unfolding(crate::specs::FreezeCalls::freeze_calls_zero))]
     pub fn zero() -> Self
         ensures { result ≡ freeze_calls_zero }
     {

@@ -22,6 +22,7 @@ pub struct FreezeCommandsWords {
 }
 
 impl FreezeCommandsWords {
+    #[tactic(auto, unfolding(crate::specs::FreezeCommands::freeze_commands_words))]
     pub fn of(value: FreezeCommands) -> Self
         ensures { result ≡ freeze_commands_words value }
     {
@@ -40,6 +41,7 @@ impl FreezeCommandsWords {
         }
     }
 
+    #[tactic(auto, unfolding(crate::specs::FreezeCommands::freeze_commands_zero))]
     pub fn zero() -> Self
         ensures { result ≡ freeze_commands_zero }
     {

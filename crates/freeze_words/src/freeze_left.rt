@@ -16,6 +16,7 @@ pub struct FreezeLeftWords {
 }
 
 impl FreezeLeftWords {
+    #[tactic(auto, unfolding(crate::specs::FreezeLeft::freeze_left_words))]
     pub fn of(value: FreezeLeft) -> Self
         ensures { result ≡ freeze_left_words value }
     {
@@ -29,6 +30,7 @@ impl FreezeLeftWords {
         }
     }
 
+    #[tactic(auto, unfolding(crate::specs::FreezeLeft::freeze_left_zero))]
     pub fn zero() -> Self
         ensures { result ≡ freeze_left_zero }
     {

@@ -23,6 +23,7 @@ pub struct FreezeRowWords {
 }
 
 impl FreezeRowWords {
+    #[tactic(auto, unfolding(crate::specs::FreezeRow::freeze_row_of))]
     pub fn value(self) -> FreezeRow
         ensures { result ≡ freeze_row_of self }
     {

@@ -25,6 +25,7 @@ pub struct FreezeSignalsWords {
 }
 
 impl FreezeSignalsWords {
+    #[tactic(auto, unfolding(crate::specs::FreezeSignals::freeze_signals_words))]
     pub fn of(value: FreezeSignals) -> Self
         ensures { result ≡ freeze_signals_words value }
     {
@@ -46,6 +47,7 @@ impl FreezeSignalsWords {
         }
     }
 
+    #[tactic(auto, unfolding(crate::specs::FreezeSignals::freeze_signals_zero))]
     pub fn zero() -> Self
         ensures { result ≡ freeze_signals_zero }
     {

@@ -20,6 +20,7 @@ pub struct RowReaderWords {
 }
 
 impl RowReaderWords {
+    #[tactic(auto, unfolding(crate::specs::RowReader::row_reader_words))]
     pub fn of(value: RowReader) -> Self
         ensures { result ≡ row_reader_words value }
     {
@@ -37,6 +38,7 @@ impl RowReaderWords {
         }
     }
 
+    #[tactic(auto, unfolding(crate::specs::RowReader::row_reader_of))]
     pub fn value(self) -> RowReader
         ensures { result ≡ row_reader_of self }
     {

@@ -16,6 +16,7 @@ pub struct DamperEnableWords {
 }
 
 impl DamperEnableWords {
+    #[tactic(auto, unfolding(crate::specs::DamperEnable::damper_enable_words))]
     pub fn of(value: DamperEnable) -> Self
         ensures { result ≡ damper_enable_words value }
     {
@@ -29,6 +30,7 @@ impl DamperEnableWords {
         }
     }
 
+    #[tactic(auto, unfolding(crate::specs::DamperEnable::damper_enable_zero))]
     pub fn zero() -> Self
         ensures { result ≡ damper_enable_zero }
     {

@@ -18,6 +18,7 @@ pub struct PressureControlWords {
 }
 
 impl PressureControlWords {
+    #[tactic(auto, unfolding(crate::specs::PressureControl::pressure_control_words))]
     pub fn of(value: PressureControl) -> Self
         ensures { result ≡ pressure_control_words value }
     {
@@ -34,6 +35,7 @@ impl PressureControlWords {
         }
     }
 
+    #[tactic(auto, unfolding(crate::specs::PressureControl::pressure_control_zero))]
     pub fn zero() -> Self
         ensures { result ≡ pressure_control_zero }
     {

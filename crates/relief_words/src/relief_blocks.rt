@@ -41,6 +41,7 @@ pub struct ReliefBlocksWords {
 }
 
 impl ReliefBlocksWords {
+    #[tactic(auto, unfolding(crate::specs::ReliefBlocks::relief_blocks_words))]
     pub fn of(value: ReliefBlocks) -> Self
         ensures { result ≡ relief_blocks_words value }
     {
@@ -93,6 +94,7 @@ impl ReliefBlocksWords {
         }
     }
 
+    #[tactic(auto, unfolding(crate::specs::ReliefBlocks::relief_blocks_of))]
     pub fn value(self) -> ReliefBlocks
         ensures { result ≡ relief_blocks_of self }
     {

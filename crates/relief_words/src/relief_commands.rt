@@ -19,6 +19,7 @@ pub struct ReliefCommandsWords {
 }
 
 impl ReliefCommandsWords {
+    #[tactic(auto, unfolding(crate::specs::ReliefCommands::relief_commands_words))]
     pub fn of(value: ReliefCommands) -> Self
         ensures { result ≡ relief_commands_words value }
     {
@@ -35,6 +36,7 @@ impl ReliefCommandsWords {
         }
     }
 
+    #[tactic(auto, unfolding(crate::specs::ReliefCommands::relief_commands_zero))]
     pub fn zero() -> Self
         ensures { result ≡ relief_commands_zero }
     {

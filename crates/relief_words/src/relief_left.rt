@@ -13,6 +13,7 @@ pub struct ReliefLeftWords {
 }
 
 impl ReliefLeftWords {
+    #[tactic(auto, unfolding(crate::specs::ReliefLeft::relief_left_words))]
     pub fn of(value: ReliefLeft) -> Self
         ensures { result ≡ relief_left_words value }
     {
@@ -23,6 +24,7 @@ impl ReliefLeftWords {
         }
     }
 
+    #[tactic(auto, unfolding(crate::specs::ReliefLeft::relief_left_zero))]
     pub fn zero() -> Self
         ensures { result ≡ relief_left_zero }
     {

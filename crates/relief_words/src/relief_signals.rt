@@ -18,6 +18,7 @@ pub struct ReliefSignalsWords {
 }
 
 impl ReliefSignalsWords {
+    #[tactic(auto, unfolding(crate::specs::ReliefSignals::relief_signals_words))]
     pub fn of(value: ReliefSignals) -> Self
         ensures { result ≡ relief_signals_words value }
     {
@@ -33,6 +34,7 @@ impl ReliefSignalsWords {
         }
     }
 
+    #[tactic(auto, unfolding(crate::specs::ReliefSignals::relief_signals_zero))]
     pub fn zero() -> Self
         ensures { result ≡ relief_signals_zero }
     {

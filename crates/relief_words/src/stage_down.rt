@@ -20,6 +20,7 @@ pub struct StageDownWords {
 }
 
 impl StageDownWords {
+    #[tactic(auto, unfolding(crate::specs::StageDown::stage_down_words))]
     pub fn of(value: StageDown) -> Self
         ensures { result ≡ stage_down_words value }
     {
@@ -40,6 +41,7 @@ impl StageDownWords {
         }
     }
 
+    #[tactic(auto, unfolding(crate::specs::StageDown::stage_down_zero))]
     pub fn zero() -> Self
         ensures { result ≡ stage_down_zero }
     {

@@ -20,6 +20,7 @@ pub struct StageUpWords {
 }
 
 impl StageUpWords {
+    #[tactic(auto, unfolding(crate::specs::StageUp::stage_up_words))]
     pub fn of(value: StageUp) -> Self
         ensures { result ≡ stage_up_words value }
     {
@@ -39,6 +40,7 @@ impl StageUpWords {
         }
     }
 
+    #[tactic(auto, unfolding(crate::specs::StageUp::stage_up_zero))]
     pub fn zero() -> Self
         ensures { result ≡ stage_up_zero }
     {
