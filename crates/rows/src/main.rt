@@ -1,15 +1,16 @@
 // Reads a row file from standard input and writes its answers to standard output (document 01, 'Row lines'). What came is answered and written
-// before more is read, so it serves a pipe. Where reading or writing fails it says so on standard error, and stops: it has no exit status to say it with.
+// before more is read, so it serves a pipe. Where reading or writing fails it says so on standard error, and stops, with no exit status to say it by.
 #![tactic(auto)]
 
 ghost use Rattle.std.specs.Prelude.{◌≡◌, ◌≤◌, length};
 ghost use Rattle.row_kinds.specs.Rows.{Lent};
 ghost use Rattle.rows.specs.Turns.{TurnLeft};
 
-use libc::{STDERR_FILENO, STDIN_FILENO, STDOUT_FILENO};
 use row_kinds::kind::Phase;
 use row_kinds::types::{RowReader, fresh_at};
 use row_reader::feed::{feed, finish};
+use std::io;
+use std::io::Read;
 
 // The reader after a turn, the bytes kept of a line, whether all answers were written, and whether there is a next turn.
 #[derive(Clone, Copy)]
@@ -20,37 +21,50 @@ struct Turned {
     more: bool,
 }
 
+// Says on standard error what has failed. Where that fails too, nothing is left to say it by.
+fn say(rt: &impl Eprint, what: &str) {
+    let _ = rt.eprintln(what);
+}
+
 // Writes answers, and tells whether they were written.
-fn put(answers: &[u8]) -> bool {
-    let written = io::write_all(STDOUT_FILENO, answers);
+fn put(rt: &(impl Print + Eprint), answers: &[u8]) -> bool {
+    let written = rt.write_all(answers).is_ok();
     if !written {
-        io::write_all(STDERR_FILENO, b"rows: the answers could not be written\n");
+        say(rt, "rows: the answers could not be written");
     }
     written
 }
 
 // The input has ended.
-fn end(reader: RowReader, line: &[u8], len: usize, out: &mut [u8])
+fn end(rt: &(impl Print + Eprint), reader: RowReader, line: &[u8], len: usize, out: &mut [u8])
     requires { (len ≤ length line.now) × (22 ≤ length out.old) }
 {
     let said = finish(reader, line, len, out);
-    put(&out[..said]);
+    put(rt, &out[..said]);
 }
 
 // A read gave no bytes: the input has ended, or it cannot be read further and how it ends is not known.
-fn no_more(got: isize, reader: RowReader, line: &[u8], len: usize, out: &mut [u8])
+fn no_more(
+    rt: &(impl Print + Eprint),
+    got: io::Result<usize>,
+    reader: RowReader,
+    line: &[u8],
+    len: usize,
+    out: &mut [u8],
+)
     requires { (len ≤ length line.now) × (22 ≤ length out.old) }
 {
-    if got < 0 {
-        io::write_all(STDERR_FILENO, b"rows: the input could not be read\n");
+    if got.is_err() {
+        say(rt, "rows: the input could not be read");
     } else {
-        end(reader, line, len, out);
+        end(rt, reader, line, len, out);
     }
 }
 
 // Reads once, and answers the lines that end in what came. There is no next turn where no more comes, the answers cannot be written, or the first
 // line names no kind.
 fn turn(
+    rt: &(impl Input + Print + Eprint),
     buffer: &mut [u8],
     line: &mut [u8],
     out: &mut [u8],
@@ -63,10 +77,10 @@ fn turn(
     ensures { TurnLeft result.reader result.len result.written result.more times.new
         integrals.new }
 {
-    let got = libc::read(STDIN_FILENO, buffer);
-    let n = io::count(got, buffer);
+    let got = rt.reader().read(buffer);
+    let n = got.unwrap_or(0);
     if n == 0 {
-        no_more(got, reader, line, had, out);
+        no_more(rt, got, reader, line, had, out);
         return Turned {
             reader,
             len: had,
@@ -76,7 +90,7 @@ fn turn(
     }
     let fed = feed(&buffer[..n], line, out, times, integrals, reader, had);
     let sent = fed.sent;
-    let written = put(&out[..sent]);
+    let written = put(rt, &out[..sent]);
     let next = fed.reader;
     let phase = next.phase;
     let stopped = phase.stopped();
@@ -90,6 +104,7 @@ fn turn(
 
 // Turn after turn. Nothing says that an input ends, so the turns are counted down, from a number that no run uses up.
 fn play(
+    rt: &(impl Input + Print + Eprint),
     buffer: &mut [u8],
     line: &mut [u8],
     out: &mut [u8],
@@ -104,7 +119,7 @@ fn play(
     let mut turns = u64::MAX;
     while turns > 0 && more {
         turns -= 1;
-        let turned = turn(buffer, line, out, times, integrals, reader, len);
+        let turned = turn(rt, buffer, line, out, times, integrals, reader, len);
         let next = turned.reader;
         reader = next;
         len = turned.len;
@@ -126,11 +141,18 @@ fn output_buffer() -> [u8; 185856]
     [0; 185856]
 }
 
-fn main() {
+fn main(rt: HostRuntime) {
     let mut buffer = input_buffer();
     let mut line = [0u8; 256];
     let mut out = output_buffer();
     let mut times = [0.0; 512];
     let mut integrals = [0.0; 512];
-    play(&mut buffer, &mut line, &mut out, &mut times, &mut integrals);
+    play(
+        &rt,
+        &mut buffer,
+        &mut line,
+        &mut out,
+        &mut times,
+        &mut integrals,
+    );
 }

@@ -9,9 +9,10 @@ ghost use Rattle.std.specs.Prelude.{◌+◌, ◌*◌, ◌≤◌, ◌<◌, ◌≡
 use columns::line::write_status_line;
 use econ_lines::econ::{econ_row_of, write_econ_row};
 use freeze_lines::freeze::{freeze_row_of, write_freeze_row};
-use libc::{STDIN_FILENO, STDOUT_FILENO};
 use relief_lines::relief::{relief_row_of, write_relief_row};
 use row_writer::RowWritten;
+use std::io;
+use std::io::{ErrorKind, Read};
 
 fn wide(byte: u8) -> u64
     ensures { result < 256 }
@@ -74,28 +75,28 @@ fn write_by(kind: u64, out: &mut [u8], at: usize, words: [u64; 12]) -> RowWritte
 }
 
 // Prints a number as a line.
-fn print_number(n: u64) {
+fn print_number(rt: &impl Print, n: u64) -> io::Result<()> {
     let mut line = [0u8; 22];
     write_status_line(&mut line, 0, n);
-    io::write_all(STDOUT_FILENO, &line);
+    rt.write_all(&line)
 }
 
 // Prints the status and the place after the line, 0 where the row is refused.
-fn print_answer(written: RowWritten) {
+fn print_answer(rt: &impl Print, written: RowWritten) -> io::Result<()> {
     match written {
         RowWritten::Line(next) => {
-            print_number(0);
-            print_number(next as u64);
+            print_number(rt, 0)?;
+            print_number(rt, next as u64)
         }
         RowWritten::Refused(refusal) => {
-            print_number(refusal.number());
-            print_number(0);
+            print_number(rt, refusal.number())?;
+            print_number(rt, 0)
         }
     }
 }
 
 // Writes the row of a record into the first bytes of a buffer, as many as it says, and prints what became of it and the whole buffer.
-fn print_row(bytes: &[u8], out: &mut [u8])
+fn print_row(rt: &impl Print, bytes: &[u8], out: &mut [u8]) -> io::Result<()>
     requires { (length bytes.now ≡ 120) × (length out.old ≡ 512) }
 {
     let len = room_of(word_at(bytes, 1));
@@ -103,26 +104,36 @@ fn print_row(bytes: &[u8], out: &mut [u8])
     let at = word_at(bytes, 2) as usize;
     let words = row_words(bytes);
     let written = write_by(kind, &mut out[..len], at, words);
-    print_answer(written);
-    io::write_all(STDOUT_FILENO, out);
+    print_answer(rt, written)?;
+    rt.write_all(out)
+}
+
+// Reads a record, and tells whether the input had all of it.
+fn is_read(rt: &impl Input, bytes: &mut [u8]) -> io::Result<bool> {
+    match rt.reader().read_exact(bytes) {
+        Ok(()) => Ok(true),
+        Err(e) if e.kind() == ErrorKind::UnexpectedEof => Ok(false),
+        Err(e) => Err(e),
+    }
 }
 
 // Record after record. Nothing says that an input ends, so the records are counted down, from a number that no run uses up.
-fn run(bytes: &mut [u8], out: &mut [u8])
+fn run(rt: &(impl Input + Print), bytes: &mut [u8], out: &mut [u8]) -> io::Result<()>
     requires { (length bytes.old ≡ 120) × (length out.old ≡ 512) }
 {
     let mut rows = u64::MAX;
     while rows > 0 {
         rows -= 1;
-        if io::read_full(STDIN_FILENO, bytes) < 120 {
+        if !is_read(rt, bytes)? {
             break;
         }
-        print_row(bytes, out);
+        print_row(rt, bytes, out)?;
     }
+    Ok(())
 }
 
-fn main() {
+fn main(rt: HostRuntime) -> io::Result<()> {
     let mut bytes = [0u8; 120];
     let mut out = [0u8; 512];
-    run(&mut bytes, &mut out);
+    run(&rt, &mut bytes, &mut out)
 }
