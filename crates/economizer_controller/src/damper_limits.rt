@@ -21,6 +21,7 @@ const OUT_DAM_PHY_MIN: f64 = 0.0;
 const OCCUPIED: i64 = 1;
 
 // The supply fan is proven on, and the mode is occupied.
+#[tactic(auto, unfolding(crate::specs::DamperLimits::minimum_outdoor_air_loop_enabled))]
 pub fn minimum_outdoor_air_loop_enabled(supply_fan_status: bool, operation_mode: i64) -> bool
     ensures { result ≡ minimum_outdoor_air_loop_enabled supply_fan_status operation_mode }
 {
@@ -30,6 +31,7 @@ pub fn minimum_outdoor_air_loop_enabled(supply_fan_status: bool, operation_mode:
 
 // The outdoor damper's minimum rises over the lower half of the loop signal, the return damper's maximum falls over the upper half; where the loop is off, the
 // outdoor damper's maximum is shut and the return damper's minimum open.
+#[tactic(auto, unfolding(crate::specs::DamperLimits::damper_limits))]
 pub fn damper_limits(loop_signal: f64, enabled: bool) -> DamperLimits
     ensures { result ≡ damper_limits loop_signal enabled }
 {

@@ -28,6 +28,7 @@ impl EnableState {
 
     pub const NO_FREEZE_STAGE: i64 = 0;
 
+    #[tactic(auto, unfolding(crate::specs::Enable::enable_new))]
     pub fn new() -> Self
         ensures { result ≡ enable_new }
     {
@@ -39,6 +40,7 @@ impl EnableState {
         }
     }
 
+    #[tactic(auto, unfolding(crate::specs::Enable::enable_output))]
     pub fn output(
         self,
         t: f64,
@@ -72,6 +74,7 @@ impl EnableState {
     }
 
     // The blocks after a row at t with these signals.
+    #[tactic(auto, unfolding(crate::specs::Enable::enable_update))]
     pub fn update(mut self, t: f64, signals: EnableSignals) -> Self
         ensures { result ≡ enable_update self t signals }
     {
@@ -91,6 +94,7 @@ impl EnableState {
 
 // The damper limits while the economizer is enabled, and those that it falls back to: the return damper full open until its delay is done, the outdoor damper
 // at its minimum once its own is.
+#[tactic(auto, unfolding(crate::specs::Enable::enable_limits))]
 pub fn enable_limits(signals: EnableSignals, limits: DamperLimits) -> EnableLimits
     ensures { result ≡ enable_limits signals limits }
 {

@@ -16,6 +16,7 @@ const U_RET_DAM_MIN: f64 = 0.0;
 
 // The outdoor damper opens over the lower half of the signal and is never above its upper limit; the return damper closes over the upper half and is never
 // below its lower limit.
+#[tactic(auto, unfolding(crate::specs::Relief::relief_modulation))]
 pub fn relief_modulation(
     supply_temperature_signal: f64,
     limits: DamperLimits,

@@ -18,6 +18,7 @@ use refusals::Verdict;
 const OUTDOOR_AIR_CUTOFF: f64 = 294.15;
 
 // The state of a start, before any row.
+#[tactic(auto, unfolding(crate::specs::Step::economizer_fresh))]
 pub fn economizer_fresh() -> EconomizerState
     ensures { result ≡ economizer_fresh }
 {
@@ -29,6 +30,7 @@ pub fn economizer_fresh() -> EconomizerState
 }
 
 // The first two passes: every block's output at a row, and the limits worked from them.
+#[tactic(auto, unfolding(crate::specs::Step::economizer_signals))]
 pub fn economizer_signals(state: EconomizerState, row: EconomizerRow) -> EconomizerSignals
     ensures { result ≡ economizer_signals state row }
 {
@@ -58,6 +60,7 @@ pub fn economizer_signals(state: EconomizerState, row: EconomizerRow) -> Economi
 }
 
 // The third pass, and the outputs.
+#[tactic(auto, unfolding(crate::specs::Step::economizer_commands))]
 pub fn economizer_commands(row: EconomizerRow, signals: EconomizerSignals) -> EconomizerCommands
     ensures { result ≡ economizer_commands row signals }
 {
@@ -73,6 +76,7 @@ pub fn economizer_commands(row: EconomizerRow, signals: EconomizerSignals) -> Ec
 }
 
 // The state after an accepted row with these signals. A rising fan resets the loop, after its output.
+#[tactic(auto, unfolding(crate::specs::Step::economizer_next))]
 pub fn economizer_next(
     state: EconomizerState,
     row: EconomizerRow,
@@ -97,6 +101,7 @@ pub fn economizer_next(
 }
 
 // One row: its commands and the next state, or its refusal and the old state.
+#[tactic(auto, unfolding(crate::specs::Step::economizer_row, crate::specs::Step::step_by))]
 pub fn economizer_row(state: EconomizerState, row: EconomizerRow) -> EconomizerStep
     ensures { result ≡ economizer_row state row }
 {

@@ -7,6 +7,7 @@ use reals::sign::is_finite;
 use refusals::{Verdict, judge};
 
 // No number of the row, its time included, is a NaN or an infinity.
+#[tactic(auto, unfolding(crate::specs::Verdict::numbers_finite))]
 pub fn numbers_finite(row: EconomizerRow) -> bool
     ensures { result ≡ numbers_finite row }
 {
@@ -17,6 +18,7 @@ pub fn numbers_finite(row: EconomizerRow) -> bool
         & is_finite(row.outdoor_air_temperature)
 }
 
+#[tactic(auto, unfolding(crate::specs::Verdict::economizer_verdict))]
 pub fn economizer_verdict(state: EconomizerState, row: EconomizerRow) -> Verdict
     ensures { result ≡ economizer_verdict state row }
 {
