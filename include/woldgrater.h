@@ -1,8 +1,8 @@
 /* Woldgrater for firmware on x86-64 (System V calls): freeze protection, relief fan group and economizer of air handlers.
  *
- * A call a row for each sequence: link target/staticlib/libwoldgrater.a, which `rt staticlib woldgrater` writes. Signals for a display,
+ * A call a row for each sequence: link target/staticlib/libwoldgrater.a, which `tools/build woldgrater` writes. Signals for a display,
  * the alarms that a relief state remembers, the line of a row for a row file, and whole row files: link libwoldgrater_service.a beside
- * it (`rt staticlib woldgrater_service`). Every function stands in a section of its own, so with -Wl,--gc-sections a program has only
+ * it (`tools/build woldgrater_service`). Every function stands in a section of its own, so with -Wl,--gc-sections a program has only
  * what it calls. docs/FIRMWARE.md leads from a struct of samples to a linked program.
  *
  * The functions are proved: for all words, all doubles and all bytes they do exactly what is said here, end, and touch no memory but
