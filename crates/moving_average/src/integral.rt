@@ -5,6 +5,7 @@ ghost use Rattle.moving_average.specs.Window.{point};
 ghost use Rattle.moving_average.specs.Integral.{on_line, integral_at};
 
 // At t, on the line from (t0, m0) to (t1, m1).
+#[tactic(auto, unfolding(crate::specs::Integral::on_line))]
 pub fn on_line(t: f64, t0: f64, m0: f64, t1: f64, m1: f64) -> f64
     ensures { result ≡ on_line t (point t0 m0) (point t1 m1) }
 {

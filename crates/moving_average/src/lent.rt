@@ -20,6 +20,7 @@ pub struct Integrator {
 
 impl Integrator {
     // The time of the first row.
+    #[tactic(auto, unfolding(crate::specs::State::start_time))]
     fn start(self, t: f64) -> f64
         ensures { result ≡ start_time self.prev_t self.t_start t }
     {
@@ -43,6 +44,7 @@ impl Integrator {
     }
 
     // How long the averaged time is.
+    #[tactic(auto, unfolding(crate::specs::State::averaged_time))]
     fn averaged_time(start: f64, first: f64, t: f64) -> f64
         ensures { result ≡ averaged_time start first t }
     {
@@ -74,6 +76,7 @@ impl Integrator {
     }
 
     // Helper: `MovingAverageState::is_full`.
+    #[tactic(auto, using(crate::proofs::Held::full_over, crate::proofs::Held::full_is, crate::proofs::Loops::gone_le))]
     pub fn is_full(self, times: &[f64; 512], t: f64) -> bool
         requires { length times.now ≡ 512 }
         ensures { (integrals : List Float) → length integrals ≡ 512 → result ≡ moving_average_is_full (joined self times.now integrals) t }

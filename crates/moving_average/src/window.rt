@@ -8,6 +8,7 @@ ghost use Rattle.moving_average.specs.Lent.{leading, last_is, slot};
 use reals::sign::is_sign_negative;
 
 // Whether two times are the same: equal, with equal sign bits. So numbers of one 64-bit pattern are, as the Rust asks by `to_bits`; a NaN is the same as none, itself included.
+#[tactic(auto, unfolding(crate::specs::Window::same_time))]
 pub fn same_time(a: f64, b: f64) -> bool
     ensures { result ≡ same_time a b }
 {
@@ -15,6 +16,7 @@ pub fn same_time(a: f64, b: f64) -> bool
 }
 
 // Helper: whether the last of the n points is at t.
+#[tactic(auto, unfolding(crate::specs::Lent::last_is))]
 pub fn ends_at(times: &[f64; 512], n: usize, t: f64) -> bool
     requires { (n ≤ 512) × (length times.now ≡ 512) }
     ensures { result ≡ last_is t n times.now }
@@ -42,6 +44,7 @@ pub fn old_points(times: &[f64; 512], n: usize, cutoff: f64) -> usize
 }
 
 // The index of a new point, of a window that keeps n points: that of the last one where it is at the same time.
+#[tactic(auto, unfolding(crate::specs::Lent::slot))]
 pub fn slot(n: usize, same: bool) -> usize
     ensures { result ≡ slot n same }
 {

@@ -1,0 +1,23 @@
+-- `output`: each callee's equation is folded into the definition.
+use Rattle.moving_average.specs.State.{moving_average_output}
+use Rattle.moving_average.specs.Lent.{joined}
+use Rattle.moving_average.proofs.Held.{Sized, held_front, held_first}
+use Rattle.moving_average.proofs.lent.Integrator.output.Goals as goal
+
+pub returns : goal.returns
+unfolding moving_average_output
+returns c =
+    let a = c.args in
+    let whole = joined a.self a.times.now a.integrals.now in
+    let sized : Sized whole = record { times = c.requires.0; integrals = c.requires.1 } in
+    let n = c.len-n.result in
+    let e = c.len-n.ensures in
+    rw (
+      held_first whole sized n e _,
+      held_front whole sized n e,
+      ← c.start-start.ensures,
+      ← c.mu_now-mu.ensures,
+      ← c.mu_at-old.ensures,
+      ← c.first_time-first.ensures,
+      ← c.averaged_time.ensures,
+    )
