@@ -8,7 +8,7 @@ use Rattle.logical.specs.declared.hour_timer.HourTimerState.{HourTimerState}
 use Rattle.logical.specs.Switch.{logical_switch}
 use Rattle.logical.specs.Timer.{entry_time, elapsed_time}
 use Rattle.logical.specs.HeldTimer.{held_timer_output, held_timer_update}
-use Rattle.logical.specs.HourTimer.{hour_timer, hour_timer_held, hour_timer_output, hour_timer_update, run_on_timer_output, run_on_timer_update}
+use Rattle.logical.specs.HourTimer.{hour_timer_held, hour_timer_output, hour_timer_update, run_on_timer_output, run_on_timer_update}
 
 -- the timer with these fields
 abbrev with_fields : Float → Seen → Bool → Bool → Bool → HourTimerState
