@@ -89,7 +89,7 @@ word_again form w h f = go (eqb form float) refl (eqb form yes_no) refl (eqb for
 before_holds : (b : Bool) (forms words : List ℕ) → finite_after b forms words ≡ true → b ≡ true
 before_holds b [] words h = h
 before_holds b (form ∷ forms) [] h = h
-before_holds b (form ∷ forms) (w ∷ words) h = by (eqb form float) (before_holds _ forms words h)
+before_holds b (form ∷ forms) (w ∷ words) h = by (eqb form float) (before_holds (cond (eqb form float) (b && finite (of_bits binary64 w)) b) forms words h)
   where
     by : (r : Bool) → cond r (b && finite (of_bits binary64 w)) b ≡ true → b ≡ true
     by true e = (both b (finite (of_bits binary64 w)) e).0
@@ -103,8 +103,8 @@ all_again_lem b (form ∷ forms) [] h n = absurd (true≢false (sym h))
 all_again_lem b (form ∷ forms) (w ∷ words) h n =
     let a = both (is_word form w) (are_words forms words) h in
     let f : eqb form float ≡ true → finite (of_bits binary64 w) ≡ true =
-    λ e. (both b (finite (of_bits binary64 w)) (ap (λ (r : Bool). cond r (b && finite (of_bits binary64 w)) b) (sym e) ∙ before_holds _ forms words n)).1 in
-    ap₂ (λ (x : ℕ) (l : List ℕ). x ∷ l) (word_again form w a.0 f) (all_again_lem _ forms words a.1 n)
+    λ e. (both b (finite (of_bits binary64 w)) (ap (λ (r : Bool). cond r (b && finite (of_bits binary64 w)) b) (sym e) ∙ before_holds (cond (eqb form float) (b && finite (of_bits binary64 w)) b) forms words n)).1 in
+    ap₂ (λ (x : ℕ) (l : List ℕ). x ∷ l) (word_again form w a.0 f) (all_again_lem (cond (eqb form float) (b && finite (of_bits binary64 w)) b) forms words a.1 n)
 
 -- for the words of any table
 pub words_again : (forms words : List ℕ) → are_words forms words ≡ true → floats_finite forms words ≡ true → all_again forms words ≡ words

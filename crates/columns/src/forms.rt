@@ -53,6 +53,7 @@ fn a_word(word: u64) -> Word
 }
 
 // The largest number of a form.
+#[tactic(auto, unfolding(crate::specs::Forms::largest))]
 fn largest(form: u8) -> u64
     ensures { result ≡ largest form }
 {

@@ -17,6 +17,7 @@ fn end_line(out: &mut [u8], at: usize) -> usize
 }
 
 // Helper. Writes the line of a status alone: the answer to a line or row that is refused.
+#[tactic(auto, unfolding(crate::specs::Line::status_line))]
 pub fn write_status_line(out: &mut [u8], at: usize, status: u64) -> usize
     requires { at + 22 ≤ length out.old }
     ensures { Wrote out.old at (status_line status) 22 out.new result }
@@ -35,6 +36,7 @@ pub fn status_alone(status: u64) -> Words
 }
 
 // Helper. Writes the line of words, with its newline, and gives the place after it.
+#[tactic(auto, unfolding(crate::specs::Line::words_line))]
 pub fn write_line(out: &mut [u8], at: usize, table: Table, words: Words) -> usize
     requires { WordsFit table words out.old (at + 1) }
     ensures { Wrote out.old at (words_line (forms_of table) (words_in words))

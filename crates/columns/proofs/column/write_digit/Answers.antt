@@ -1,0 +1,13 @@
+-- `write_digit`: what makes it true.
+use Rattle.std.proofs.Common.{arith, ◌∙◌}
+use Rattle.columns.proofs.Writing.{put_end, put_over, column_over}
+use Rattle.columns.proofs.column.write_digit.Goals as goal
+
+pub returns : goal.returns
+returns c =
+    let a = c.args in
+    let m = c.mark-before in
+    column_over a.out.now _ a.at m.result a.negative a.n m.ensures
+    (c.fill.ensures
+    ∙ put_end a.out.now a.at m.result 21 a.n c.requires.1 (omega arith) (omega arith)
+    ∙ put_over a.out.now a.at m.result 21 a.n c.requires.1)

@@ -1,0 +1,6 @@
+-- `write_number`: what makes it true.
+use Rattle.columns.proofs.Writing.{column_over}
+use Rattle.columns.proofs.column.write_number.Goals as goal
+
+pub returns-then-n-lt10000000000000000 : goal.returns-then-n-lt10000000000000000
+returns-then-n-lt10000000000000000 c = column_over c.args.out.now _ c.args.at _ c.args.negative c.args.n c.mark.ensures c.write_text.ensures
