@@ -1,5 +1,5 @@
 -- `fill`: what makes it true.
-use Rattle.std.proofs.Common.{rules, ◌≡◌, arith, refl, sym, ◌∙◌}
+use Rattle.std.proofs.Common.{◌≡◌, arith, sym, ◌∙◌}
 use Rattle.columns.proofs.Writing.{fill_to, fill_step, fill_over}
 use Rattle.columns.proofs.column.fill.Goals as goal
 

@@ -1,5 +1,5 @@
 -- `write_text`: what makes it true.
-use Rattle.std.proofs.Common.{◌≡◌, ◌≤◌, ◌+◌, length, arith, sym, ◌∙◌}
+use Rattle.std.proofs.Common.{◌≤◌, ◌+◌, length, arith, sym, ◌∙◌}
 use lib.ListN.{length-set}
 use Rattle.columns.proofs.Writing.{put_more, put_end, put_over, room_more}
 use Rattle.columns.proofs.column.write_text.Goals as goal

@@ -1,5 +1,5 @@
 -- `scan`: each way that does not read byte by byte is one of proofs/Digits.antt.
-use Rattle.std.proofs.Common.{ℕ, ◌+◌, ◌≡◌, true, false, sym, ap, ◌∙◌}
+use Rattle.std.proofs.Common.{ℕ, ◌+◌, false, sym, ap, ◌∙◌}
 use Rattle.columns.specs.declared.scan.Scanned.TheVariants as scanned
 use Rattle.columns.proofs.Digits.{digit_seen, long_seen, longer_seen, too_long}
 use Rattle.columns.proofs.scan.scan.Goals as goal

@@ -1,6 +1,6 @@
 -- `scan_bytes`: each return is one of the ways of proofs/Ways.antt.
 use Rattle.std.proofs.Common.{◌≡◌, ◌+◌, ◌-◌, ◌≤◌, ◌<◌, arith, add-one, refl, slice_index_or}
-use Rattle.columns.proofs.Scanning.{Blank, Number, scan_to}
+use Rattle.columns.proofs.Scanning.{Number, scan_to}
 use Rattle.columns.proofs.Inverse.{scan_length}
 use Rattle.columns.proofs.Ways.{Leading, space_more, only_spaces, minus_last, no_sign, sign, first_low, first_high, first_digit, whole, next_low, next_high, leading_zero, too_large, next_digit}
 use Rattle.columns.proofs.scan.scan_bytes.Goals.{then-column-i-eq45, else-column-i-eq45, Joined-column-i-eq45, Else-first-gt57}
