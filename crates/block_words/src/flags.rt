@@ -2,6 +2,7 @@
 ghost use Rattle.std.specs.Prelude.{◌≡◌, map};
 ghost use Rattle.block_words.specs.Flags.{flag_word, word_flag};
 
+#[tactic(auto, unfolding(crate::specs::Flags::flag_word))]
 pub fn flag_word(flag: bool) -> u64
     ensures { result ≡ flag_word flag }
 {
@@ -12,6 +13,7 @@ pub fn flag_word(flag: bool) -> u64
 }
 
 // Any word but 0 is read as true.
+#[tactic(auto, unfolding(crate::specs::Flags::word_flag))]
 pub fn word_flag(word: u64) -> bool
     ensures { result ≡ word_flag word }
 {
