@@ -1,8 +1,6 @@
 -- `write_row`: 1, then 10, then the line.
-use Rattle.std.proofs.Common.{◌≡◌, ◌+◌, ◌*◌, ◌≤◌, length, rules, ap}
+use Rattle.std.proofs.Common.{◌≡◌, ◌+◌, ◌*◌, length, rules, ap}
 use mathlib.Core.Bool.{not}
-use Rattle.columns.specs.declared.forms.Table.{Table}
-use Rattle.columns.specs.declared.forms.Words.{Words}
 use Rattle.columns.specs.Forms.{forms_of, words_in}
 use Rattle.columns.specs.Line.{words_line}
 use Rattle.row_writer.proofs.Texts.{line_length, not_finite, no_room, has_line}
