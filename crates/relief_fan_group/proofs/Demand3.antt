@@ -34,7 +34,7 @@ use Rattle.relief_fan_group.specs.Verdict.{numbers_finite, after_judged, relief_
 use Rattle.relief_fan_group.specs.Signals.{pressure_control, relief_signals}
 use Rattle.relief_fan_group.specs.Commands.{relief_commands}
 use Rattle.relief_fan_group.specs.Step.{relief_fresh, relief_row, signals_at, step_by}
-use Rattle.relief_fan_group.specs.Reading.{Past, time_of_row, pressure_of_row, mean, ReliefReading, relief_reading, verdict_of}
+use Rattle.relief_fan_group.specs.Reading.{Past, time_of_row, pressure_of_row, ReliefReading, relief_reading, verdict_of}
 use Rattle.relief_fan_group.specs.Blocks.{blocks_of, signals_of}
 use Rattle.relief_fan_group.specs.Told.{pulses_told, relief_told, relief_returned}
 use Rattle.relief_fan_group.specs.Left.{timers_of, timers_told, timers_read}

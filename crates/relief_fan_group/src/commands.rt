@@ -9,6 +9,7 @@ use relief_fans::flags::{any_of, switch_each};
 
 // The fans that are commanded on: in a stage up those that are proven and the next to start, whatever a stage down asks; else in a stage down those that are proven, less
 // the next to stop; else those that are proven.
+#[tactic(auto, unfolding(crate::specs::Commands::fans_on))]
 pub fn fans_on(proof: [bool; 4], up: StageUp, down: StageDown) -> [bool; 4]
     ensures { result ≡ fans_on proof up down }
 {
@@ -19,6 +20,7 @@ pub fn fans_on(proof: [bool; 4], up: StageUp, down: StageDown) -> [bool; 4]
     switch_each(up.lat2_y, or2, log_swi3)
 }
 
+#[tactic(auto, unfolding(crate::specs::Commands::relief_commands))]
 pub fn relief_commands(row: ReliefRow, signals: ReliefSignals) -> ReliefCommands
     ensures { result ≡ relief_commands row signals }
 {

@@ -5,6 +5,7 @@ ghost use Rattle.relief_fan_group.specs.Left.{relief_left};
 use crate::types::{ReliefBlocks, ReliefLeft, ReliefSignals};
 
 // The seconds left on each timer at a row with these signals, by the blocks that the row was handed to.
+#[tactic(auto, unfolding(crate::specs::Left::relief_left))]
 pub fn relief_left(blocks: ReliefBlocks, signals: ReliefSignals) -> ReliefLeft
     ensures { result ≡ relief_left blocks signals }
 {

@@ -20,6 +20,7 @@ pub struct LentStep {
 }
 
 // Helper: what `relief_row` gives, with the window's arrays changed where they stand.
+#[tactic(auto, unfolding(crate::specs::Step::relief_row, crate::specs::Step::step_by, crate::specs::Step::signals_at))]
 pub fn relief_row_lent(
     integrator: Integrator,
     blocks: ReliefBlocks,

@@ -6,6 +6,7 @@ use crate::types::{ReliefBlocks, RememberedAlarm};
 use relief_fans::alarms::wide;
 
 // The alarm of a fan, by its index from 0 to 3, at the last accepted row; 0 before any row.
+#[tactic(auto, unfolding(crate::specs::Remembered::relief_alarm))]
 pub fn relief_alarm(blocks: ReliefBlocks, fan: usize) -> RememberedAlarm
     ensures { result ≡ relief_alarm blocks fan }
 {

@@ -22,6 +22,7 @@ pub fn pressure_loop(average: f64) -> f64
 }
 
 // The pressure loop with the minimum speed, and the fans that the supply fans enable.
+#[tactic(auto, unfolding(crate::specs::Signals::pressure_control))]
 pub fn pressure_control(blocks: ReliefBlocks, row: ReliefRow, average: f64) -> PressureControl
     ensures { result ≡ pressure_control blocks row average }
 {
@@ -45,6 +46,7 @@ pub fn pressure_control(blocks: ReliefBlocks, row: ReliefRow, average: f64) -> P
 }
 
 // The latch of the stage-zero dampers, for each fan that is enabled.
+#[tactic(auto, unfolding(crate::specs::Signals::damper_enable))]
 pub fn damper_enable(blocks: ReliefBlocks, row: ReliefRow, control: PressureControl) -> DamperEnable
     ensures { result ≡ damper_enable blocks row control }
 {
@@ -69,6 +71,7 @@ pub fn damper_enable(blocks: ReliefBlocks, row: ReliefRow, control: PressureCont
 }
 
 // The next fan to start, whether the started fans have proven, the up pulse and its latch.
+#[tactic(auto, unfolding(crate::specs::Signals::stage_up))]
 pub fn stage_up(blocks: ReliefBlocks, row: ReliefRow, control: PressureControl) -> StageUp
     ensures { result ≡ stage_up blocks row control }
 {
@@ -106,6 +109,7 @@ pub fn stage_up(blocks: ReliefBlocks, row: ReliefRow, control: PressureControl) 
 }
 
 // The next fan to stop, whether the stopped fans have proven, the down pulse and its latch.
+#[tactic(auto, unfolding(crate::specs::Signals::stage_down))]
 pub fn stage_down(blocks: ReliefBlocks, row: ReliefRow, control: PressureControl) -> StageDown
     ensures { result ≡ stage_down blocks row control }
 {
@@ -140,6 +144,7 @@ pub fn stage_down(blocks: ReliefBlocks, row: ReliefRow, control: PressureControl
     }
 }
 
+#[tactic(auto, unfolding(crate::specs::Signals::relief_signals))]
 pub fn relief_signals(blocks: ReliefBlocks, row: ReliefRow, average: f64) -> ReliefSignals
     ensures { result ≡ relief_signals blocks row average }
 {

@@ -22,6 +22,7 @@ use relief_fans::alarms::alarm_bytes;
 use relief_fans::blocks::{delay_updates, threshold_updates};
 
 // The blocks of a start, before any row.
+#[tactic(auto, unfolding(crate::specs::Step::relief_blocks))]
 pub fn relief_blocks() -> ReliefBlocks
     ensures { result ≡ relief_blocks }
 {
@@ -55,6 +56,7 @@ pub fn relief_blocks() -> ReliefBlocks
 }
 
 // The state of a start, before any row.
+#[tactic(auto, unfolding(crate::specs::Step::relief_fresh))]
 pub fn relief_fresh() -> ReliefState
     ensures { result ≡ relief_fresh }
 {
@@ -65,6 +67,7 @@ pub fn relief_fresh() -> ReliefState
 }
 
 // The blocks after an accepted row with these signals: every block is updated, and the row's alarms are kept.
+#[tactic(auto, unfolding(crate::specs::Step::relief_next))]
 pub fn relief_next(blocks: ReliefBlocks, row: ReliefRow, signals: ReliefSignals) -> ReliefBlocks
     ensures { result ≡ relief_next blocks row signals }
 {
@@ -130,6 +133,7 @@ pub fn relief_next(blocks: ReliefBlocks, row: ReliefRow, signals: ReliefSignals)
 }
 
 // One row: its commands and the next state, or its refusal and the old state.
+#[tactic(auto, unfolding(crate::specs::Step::relief_row, crate::specs::Step::step_by, crate::specs::Step::signals_at))]
 pub fn relief_row(state: ReliefState, row: ReliefRow) -> ReliefStep
     ensures { result ≡ relief_row state row }
 {

@@ -8,6 +8,7 @@ use refusals::{Refusal, Verdict, judge};
 use relief_fans::alarms::alarms_fit;
 
 // Every number of the row, its time included, is finite.
+#[tactic(auto, unfolding(crate::specs::Verdict::numbers_finite))]
 pub fn numbers_finite(row: ReliefRow) -> bool
     ensures { result ≡ numbers_finite row }
 {
@@ -15,6 +16,7 @@ pub fn numbers_finite(row: ReliefRow) -> bool
 }
 
 // Refusals 1, 2 and 3; 11 where an alarm does not fit its byte; 4 where the window is full for the row's time.
+#[tactic(auto, unfolding(crate::specs::Verdict::relief_verdict, crate::specs::Verdict::after_judged))]
 pub fn relief_verdict(blocks: ReliefBlocks, row: ReliefRow, full: bool) -> Verdict
     ensures { result ≡ relief_verdict blocks row full }
 {
