@@ -62,7 +62,7 @@ module _ (s : Stage) where
   module _ (x : ReliefRow) (h : Past) (t : T (in_order time_of_row (x ∷ h))) where
     latch_at : s.y (signals_of x h) ≡ latched s.set s.clear (x ∷ h)
     latch_at =
-        s.y-is (blocks_of h) x (mean (x ∷ h))
+        s.y_is (blocks_of h) x (mean (x ∷ h))
         ∙ rw (held h (before x h t), s.passed_is x h t, s.settled_is x h t) (latch_output_lem s.set s.clear s.none x h)
 
 unfoldable up_stage : Stage

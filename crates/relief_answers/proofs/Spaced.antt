@@ -162,11 +162,11 @@ module _ (l : ℕ) (r : Scale l) where
   apart_rest t p h w = and_r (is_time t && fits binary64 t && (le p t && lt r.y (sub binary64 t p))) (apart_by r.y (p ∷ h)) w
 
   unit : (t : Float) (h : List Float) → T (apart_by r.y (t ∷ h)) → (u : ℕ) × In l t u
-  unit t h w = let z = apart_time t h w in r.units_of t z.0 z.1
+  unit t h w = let z = apart_time t h w in r.units_of_lem t z.0 z.1
 
   closer : (t p : Float) (h : List Float) → T (apart_by r.y (t ∷ (p ∷ h))) → (a b : ℕ) → In l t a → In l p b
       → b + r.gy ≤ a
-  closer t p h w a b A B = let z = apart_gap t p h w in apart l t p r.y a b r.gy A B r.y-in r.y-fits z.0 z.1
+  closer t p h w a b A B = let z = apart_gap t p h w in apart l t p r.y a b r.gy A B r.y_in r.y_fits z.0 z.1
 
   -- the times from the last at or before t − q on: where p is at most k spacings too late to be the last, at most k + 1
   module _ (t : Float) (a : ℕ) (A : In l t a) where
@@ -174,7 +174,7 @@ module _ (l : ℕ) (r : Scale l) where
         → b + r.gq ≤ a + times k r.gy → length (from (sub binary64 t r.q) (p ∷ h)) ≤ suc k
     unfolding from
     from_length zero p h w b B n =
-        rw (is_true (le p (sub binary64 t r.q)) (reached l t p r.q a b r.gq A B r.q-in (apart_time p h w).1 (omega arith))) (le_refl 1)
+        rw (is_true (le p (sub binary64 t r.q)) (reached l t p r.q a b r.gq A B r.q_in (apart_time p h w).1 (omega arith))) (le_refl 1)
     from_length (suc k) p [] w b B n = go (le p (sub binary64 t r.q))
       where
         go : (c : Bool) → length (cond c (p ∷ []) (p ∷ [])) ≤ suc (suc k)
