@@ -45,6 +45,7 @@ pub const ECON_ANSWER: Table = Table {
 };
 
 // The row of its words.
+#[tactic(auto, unfolding(crate::specs::Econ::econ_row_of))]
 pub fn econ_row_of(words: [u64; 12]) -> EconomizerRow
     ensures { result ≡ econ_row_of words }
 {
@@ -61,6 +62,7 @@ pub fn econ_row_of(words: [u64; 12]) -> EconomizerRow
 }
 
 // The words of a row, whose line reads back as the row.
+#[tactic(auto, using(crate::proofs::Back::Fits, crate::proofs::Back::econ_row_back), unfolding(crate::specs::Econ::econ_row_words))]
 fn econ_row_words(row: EconomizerRow) -> Words
     ensures value { result ≡ word_list (econ_row_words row) }
     ensures reads_back { ReadsBack econ_kind row }
@@ -86,6 +88,7 @@ fn econ_row_words(row: EconomizerRow) -> Words
 
 // Writes the line of a row, with its newline, from the place `at` on. A number that is not finite is refused (1), or else a line that does not fit (10),
 // and no byte changes then. What is written reads back as the row. The time is not looked at: what the sequence would refuse for it is written too.
+#[tactic(auto, using(row_writer::proofs::Texts::row_written), unfolding(crate::specs::Econ::econ_row_words))]
 pub fn write_econ_row(out: &mut [u8], at: usize, row: EconomizerRow) -> RowWritten
     ensures left_by { LeftBy (write_row econ_kind row out.old at) result out.new }
     ensures reads_back { ReadsBack econ_kind row }
@@ -96,6 +99,7 @@ pub fn write_econ_row(out: &mut [u8], at: usize, row: EconomizerRow) -> RowWritt
 }
 
 // The words of an accepted row's answer: status 0 and the commands.
+#[tactic(auto, unfolding(crate::specs::Econ::econ_command_words))]
 fn command_words(commands: EconomizerCommands) -> Words
     ensures { result ≡ word_list (econ_command_words commands) }
 {
@@ -119,6 +123,7 @@ fn command_words(commands: EconomizerCommands) -> Words
 }
 
 // The words of an answer.
+#[tactic(auto, unfolding(crate::specs::Econ::econ_answer_words))]
 fn answer_words(answer: EconomizerAnswer) -> Words
     ensures { result ≡ word_list (econ_answer_words answer) }
 {
