@@ -52,6 +52,7 @@ pub const FREEZE_ANSWER: Table = Table {
 };
 
 // The row of its words.
+#[tactic(auto, unfolding(crate::specs::Freeze::freeze_row_of))]
 pub fn freeze_row_of(words: [u64; 12]) -> FreezeRow
     ensures { result ≡ freeze_row_of words }
 {
@@ -72,6 +73,7 @@ pub fn freeze_row_of(words: [u64; 12]) -> FreezeRow
 }
 
 // The words of a row, whose line reads back as the row.
+#[tactic(auto, using(crate::proofs::Back::Fits, crate::proofs::Back::freeze_row_back), unfolding(crate::specs::Freeze::freeze_row_words))]
 fn freeze_row_words(row: FreezeRow) -> Words
     ensures value { result ≡ word_list (freeze_row_words row) }
     ensures reads_back { ReadsBack freeze_kind row }
@@ -97,6 +99,7 @@ fn freeze_row_words(row: FreezeRow) -> Words
 
 // Writes the line of a row, with its newline, from the place `at` on. A number that is not finite is refused (1), or else a line that does not fit (10),
 // and no byte changes then. What is written reads back as the row. The time is not looked at: what the sequence would refuse for it is written too.
+#[tactic(auto, using(row_writer::proofs::Texts::row_written), unfolding(crate::specs::Freeze::freeze_row_words))]
 pub fn write_freeze_row(out: &mut [u8], at: usize, row: FreezeRow) -> RowWritten
     ensures left_by { LeftBy (write_row freeze_kind row out.old at) result out.new }
     ensures reads_back { ReadsBack freeze_kind row }
@@ -107,6 +110,7 @@ pub fn write_freeze_row(out: &mut [u8], at: usize, row: FreezeRow) -> RowWritten
 }
 
 // The words of an accepted row's answer: status 0 and the commands.
+#[tactic(auto, unfolding(crate::specs::Freeze::freeze_command_words))]
 fn command_words(commands: FreezeCommands) -> Words
     ensures { result ≡ word_list (freeze_command_words commands) }
 {
@@ -130,6 +134,7 @@ fn command_words(commands: FreezeCommands) -> Words
 }
 
 // The words of an answer.
+#[tactic(auto, unfolding(crate::specs::Freeze::freeze_answer_words))]
 fn answer_words(answer: FreezeAnswer) -> Words
     ensures { result ≡ word_list (freeze_answer_words answer) }
 {
