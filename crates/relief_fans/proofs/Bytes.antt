@@ -4,26 +4,12 @@ use native.Mathlib.Omega.{arith}
 use mathlib.Core.Path.{◌≡◌, refl, ap, ◌∙◌}
 use mathlib.Core.List.{List, [], ◌∷◌, map}
 use lib.Dec.{eqb}
-use lib.IntN.{pos}
-use lib.Ieee.{Float, binary64, of_int, round, of_bits, nan}
+use lib.Ieee.{of_int, round, of_bits, nan}
 use lib.ListN.{get_or, length}
 use Rattle.reals.specs.Four.{real}
 use Rattle.reals.specs.Switch.{bool_to_real}
 use Rattle.relief_fans.specs.Table.{sta_vec, rel_fan_mat, on_supply}
-
--- STA_VEC and REL_FAN_SUPPLY of src/table.rt
-abbrev pub weights : List ℕ
-weights = 2 ∷ 3 ∷ 1 ∷ 4 ∷ []
-
-abbrev supplies : List ℕ
-supplies = 0 ∷ 0 ∷ 1 ∷ 1 ∷ []
-
--- a weight as the code makes it a float, and the two entries of a relief fan that is on supply fan s
-abbrev as_real : ℕ → Float
-as_real n = of_int binary64 (pos n)
-
-abbrev entries : ℕ → List Float
-entries s = bool_to_real (eqb s 0) ∷ bool_to_real (eqb s 1) ∷ []
+use Rattle.relief_fans.proofs.AsCoded.{weights, supplies, as_real, entries}
 
 -- the bytes, made floats, are the constants of the definitions, to the bit
 pub table_is : map as_real weights ∷ map entries supplies ≡ sta_vec ∷ rel_fan_mat

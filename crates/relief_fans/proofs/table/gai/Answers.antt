@@ -6,7 +6,8 @@ use lib.ListN.{get_or}
 use lib.Ieee.{nan}
 use Rattle.reals.proofs.Four.{start, more, yet, over}
 use Rattle.relief_fans.specs.Table.{gai}
-use Rattle.relief_fans.proofs.Bytes.{weights, weight_is, to_come, place}
+use Rattle.relief_fans.proofs.AsCoded.{weights}
+use Rattle.relief_fans.proofs.Bytes.{weight_is, to_come, place}
 use Rattle.relief_fans.proofs.table.gai.Invariants.{Weighed}
 use Rattle.relief_fans.proofs.table.gai.Goals as goal
 
