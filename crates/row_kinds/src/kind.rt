@@ -25,6 +25,7 @@ pub enum Phase {
 }
 
 // What follows a first line, without its newline.
+#[tactic(auto, using(crate::proofs::Words::word_is, crate::proofs::Words::word_is_not), unfolding(crate::specs::Kind::phase_after))]
 pub fn phase_after(line: &[u8]) -> Phase
     ensures { result ≡ phase_after line.now }
 {
@@ -42,6 +43,7 @@ pub fn phase_after(line: &[u8]) -> Phase
 
 impl Kind {
     // The columns of a row.
+    #[tactic(auto, unfolding(crate::specs::Kind::row_forms_of))]
     pub fn row_table(self) -> Table
         ensures { result ≡ table_of (row_forms_of self) }
     {
@@ -53,6 +55,7 @@ impl Kind {
     }
 
     // The columns of an answer.
+    #[tactic(auto, unfolding(crate::specs::Kind::answer_forms_of))]
     pub fn answer_table(self) -> Table
         ensures { result ≡ table_of (answer_forms_of self) }
     {
@@ -66,6 +69,7 @@ impl Kind {
 
 impl Phase {
     // The reader has not had its first line.
+    #[tactic(auto, unfolding(crate::specs::Rows::phase_first))]
     pub fn first(self) -> bool
         ensures { result ≡ phase_first self }
     {
@@ -77,6 +81,7 @@ impl Phase {
     }
 
     // The reader reads no more.
+    #[tactic(auto, unfolding(crate::specs::Rows::phase_stopped))]
     pub fn stopped(self) -> bool
         ensures { result ≡ phase_stopped self }
     {

@@ -43,6 +43,7 @@ pub fn no_points() -> Integrator
 }
 
 // A reader at a phase, with the fresh state of each kind.
+#[tactic(auto, unfolding(crate::specs::Rows::fresh_at))]
 pub fn fresh_at(phase: Phase) -> RowReader
     ensures { result ≡ fresh_at phase }
 {
