@@ -117,13 +117,11 @@ fn is_read(rt: &impl Input, bytes: &mut [u8]) -> io::Result<bool> {
     }
 }
 
-// Record after record. Nothing says that an input ends, so the records are counted down, from a number that no run uses up.
+// Record after record. Nothing says that an input ends, so the records are counted, up to a number that no run uses up.
 fn run(rt: &(impl Input + Print), bytes: &mut [u8], out: &mut [u8]) -> io::Result<()>
     requires { (length bytes.old ≡ 120) × (length out.old ≡ 512) }
 {
-    let mut rows = u64::MAX;
-    while rows > 0 {
-        rows -= 1;
+    for _ in 0..u64::MAX {
         if !is_read(rt, bytes)? {
             break;
         }
