@@ -33,13 +33,7 @@ TIMERS = re.compile('(?<!Line)(?<!line_)[Ll]eft')
 FILES = {
     'woldgrater/src/econ.rt': ('woldgrater/src/freeze.rt', ECON),
     'woldgrater/specs/Economizer.antt': ('woldgrater/specs/Freeze.antt', ECON),
-    'woldgrater/proofs/econ/economizer_answered/Proof.antt': ('woldgrater/proofs/freeze/freeze_answered/Proof.antt', ECON),
-    'woldgrater/proofs/econ/woldgrater_econ_row/Proof.antt': ('woldgrater/proofs/freeze/woldgrater_freeze_row/Proof.antt', ECON),
-    'woldgrater/proofs/econ/woldgrater_econ_start/Proof.antt': ('woldgrater/proofs/freeze/woldgrater_freeze_start/Proof.antt', ECON),
-    'woldgrater/proofs/relief/relief_answered/Proof.antt': ('woldgrater/proofs/freeze/freeze_answered/Proof.antt', RELIEF),
     'woldgrater_service/src/econ.rt': ('woldgrater_service/src/freeze.rt', ECON, TIMERS),
-    'woldgrater_service/proofs/econ/woldgrater_econ_line/Proof.antt': ('woldgrater_service/proofs/freeze/woldgrater_freeze_line/Proof.antt', ECON),
-    'woldgrater_service/proofs/relief/woldgrater_relief_line/Proof.antt': ('woldgrater_service/proofs/freeze/woldgrater_freeze_line/Proof.antt', RELIEF),
 }
 
 

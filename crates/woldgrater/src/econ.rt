@@ -37,6 +37,7 @@ pub fn woldgrater_econ_start() -> EconomizerWords
 }
 
 // An answer's status and commands.
+#[tactic(auto, unfolding(crate::specs::Economizer::economizer_answered))]
 fn economizer_answered(answer: EconomizerAnswer) -> EconomizerAnswered
     ensures { result ≡ economizer_answered answer }
 {
@@ -53,6 +54,7 @@ fn economizer_answered(answer: EconomizerAnswer) -> EconomizerAnswered
 }
 
 // One row: its commands and the next state, or its refusal and the old state.
+#[tactic(auto, unfolding(crate::specs::Economizer::economizer_given))]
 pub fn woldgrater_econ_row(state: EconomizerWords, row: EconomizerRowWords) -> EconomizerGiven
     ensures { result ≡ economizer_given (economizer_row (economizer_of state) (economizer_row_of row)) }
 {

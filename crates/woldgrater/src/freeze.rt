@@ -36,6 +36,7 @@ pub fn woldgrater_freeze_start() -> FreezeWords
 }
 
 // An answer's status and commands.
+#[tactic(auto, unfolding(crate::specs::Freeze::freeze_answered))]
 fn freeze_answered(answer: FreezeAnswer) -> FreezeAnswered
     ensures { result ≡ freeze_answered answer }
 {
@@ -52,6 +53,7 @@ fn freeze_answered(answer: FreezeAnswer) -> FreezeAnswered
 }
 
 // One row: its commands and the next state, or its refusal and the old state.
+#[tactic(auto, unfolding(crate::specs::Freeze::freeze_given))]
 pub fn woldgrater_freeze_row(state: FreezeWords, row: FreezeRowWords) -> FreezeGiven
     ensures { result ≡ freeze_given (freeze_row (freeze_of state) (freeze_row_of row)) }
 {

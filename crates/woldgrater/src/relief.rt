@@ -59,6 +59,7 @@ pub fn lend(values: &[f64]) -> usize
 }
 
 // An answer's status and commands.
+#[tactic(auto, unfolding(crate::specs::Relief::relief_answered))]
 fn relief_answered(answer: ReliefAnswer) -> ReliefAnswered
     ensures { result ≡ relief_answered answer }
 {
