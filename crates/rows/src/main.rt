@@ -102,7 +102,7 @@ fn turn(
     }
 }
 
-// Turn after turn. Nothing says that an input ends, so the turns are counted down, from a number that no run uses up.
+// Turn after turn. Nothing says that an input ends, so the turns are counted, up to a number that no run uses up.
 fn play(
     rt: &(impl Input + Print + Eprint),
     buffer: &mut [u8],
@@ -115,15 +115,14 @@ fn play(
 {
     let mut reader = fresh_at(Phase::First);
     let mut len: usize = 0;
-    let mut more = true;
-    let mut turns = u64::MAX;
-    while turns > 0 && more {
-        turns -= 1;
+    for _ in 0..u64::MAX {
         let turned = turn(rt, buffer, line, out, times, integrals, reader, len);
         let next = turned.reader;
         reader = next;
         len = turned.len;
-        more = turned.more;
+        if !turned.more {
+            break;
+        }
     }
 }
 
