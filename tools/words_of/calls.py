@@ -1,25 +1,21 @@
-"""The calls of the economizer, and of relief what lends no arrays: those of freeze protection under other names. There are no generics to say
-them once; the script does."""
+"""The calls of the economizer: those of freeze protection under other names."""
 
 import os
 import re
 
 # what stands in place of what, in this order
-RELIEF = [('Freeze', 'Relief'), ('freeze', 'relief')]
 ECON = [
     ('freeze_protection::signals::freeze_signals', 'economizer_controller::step::economizer_signals'),
     ('freeze_protection.specs.Signals', 'economizer_controller.specs.Step'),
     ('freeze_protection', 'economizer_controller'),
     ('freeze_lines.specs.Freeze', 'econ_lines.specs.Econ'),
     ('declared.freeze.', 'declared.econ.'),
-    ('proofs.freeze.', 'proofs.econ.'),
     ('freeze_lines::freeze', 'econ_lines::econ'),
     ('freeze_lines', 'econ_lines'),
     ('{freeze_words', '{economizer_words'),
     (' freeze_words ', ' economizer_words '),
     ('freeze_words', 'econ_words'),
     ('write_freeze_row', 'write_econ_row'),
-    ('write-freeze-row', 'write-econ-row'),
     ('freeze_kind', 'econ_kind'),
     ('woldgrater_freeze', 'woldgrater_econ'),
     ('Freeze protection', 'The economizer'),
