@@ -1,5 +1,5 @@
 -- `pass_rows`: a turn is a line answered by its kind.
-use Rattle.std.proofs.Common.{ℕ, List, ◌-◌, take, drop, refl, sym, ap, subst, ◌∙◌}
+use Rattle.std.proofs.Common.{rules, ℕ, List, ◌-◌, take, drop, refl, sym, ap, subst, ◌∙◌}
 use Rattle.line_stream.proofs.Turns.{start, answer_fits, turn, end}
 use Rattle.row_kinds.specs.declared.kind.Phase.TheVariants as phase
 use Rattle.row_kinds.specs.Reader.{reader_kept}
@@ -28,13 +28,13 @@ done c =
     elim c.if-read.branch [
       | then-read+in-Freeze w ↦
           met k _ (line c) w.freeze-is w.integrator-is w.blocks-is w.econ-is w.times-is w.integrals-is w.answer-is
-          (freeze_arm k _ _ _ _ _ _ l.invariant.1 (line c) _ _ read w.in-Freeze.is w.if-read.true _ _ w.freeze_step-stepped.ensures)
+          (freeze_arm k _ _ _ _ _ _ l.invariant.1 (line c) _ _ read w.in-Freeze.is w.if-read.true _ _ (search rules))
       | then-read+in-Relief w ↦
           met k _ (line c) w.freeze-is w.integrator-is w.blocks-is w.econ-is w.times-is w.integrals-is w.answer-is
           (relief_arm k _ _ _ _ _ _ l.invariant.1 (line c) _ _ read w.in-Relief.is w.if-read.true _ _ _ _ _ w.relief_step-stepped.ensures)
       | then-read+in-Econ w ↦
           met k _ (line c) w.freeze-is w.integrator-is w.blocks-is w.econ-is w.times-is w.integrals-is w.answer-is
-          (econ_arm k _ _ _ _ _ _ l.invariant.1 (line c) _ _ read w.in-Econ.is w.if-read.true _ _ w.econ_step-stepped.ensures)
+          (econ_arm k _ _ _ _ _ _ l.invariant.1 (line c) _ _ read w.in-Econ.is w.if-read.true _ _ (search rules))
       | else-read w ↦
           met k _ (line c) w.freeze-is w.integrator-is w.blocks-is w.econ-is w.times-is w.integrals-is w.answer-is
           (bad_arm k _ _ _ _ _ _ l.invariant.1 (line c) _ _ read w.if-read.false _ c.status_alone-answer.ensures)
