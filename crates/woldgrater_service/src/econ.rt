@@ -28,6 +28,7 @@ pub struct EconomizerShown {
 }
 
 // What the commands of a row would be worked from. The state does not move.
+#[tactic(auto, unfolding(crate::specs::Shown::economizer_shown))]
 pub fn woldgrater_econ_signals(state: EconomizerWords, row: EconomizerRowWords) -> EconomizerShown
     ensures { result ≡ economizer_shown (economizer_verdict (economizer_of state) (economizer_row_of row))
         (economizer_signals (economizer_of state) (economizer_row_of row)) }

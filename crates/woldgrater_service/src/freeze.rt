@@ -33,6 +33,7 @@ pub struct FreezeShown {
 
 // What the commands of a row would be worked from. The state does not move.
 // Beside it what is left on each timer.
+#[tactic(auto, unfolding(crate::specs::Shown::freeze_shown))]
 pub fn woldgrater_freeze_signals(state: FreezeWords, row: FreezeRowWords) -> FreezeShown
     ensures { result ≡ freeze_shown (freeze_verdict (freeze_of state) (freeze_row_of row))
         (freeze_left (freeze_of state) (freeze_signals (freeze_of state) (freeze_row_of row)))

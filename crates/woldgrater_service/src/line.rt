@@ -12,6 +12,7 @@ pub struct LineGiven {
     pub len: usize,
 }
 
+#[tactic(auto, unfolding(crate::specs::Line::line_given))]
 pub fn line_given(written: RowWritten) -> LineGiven
     ensures { result ≡ line_given written }
 {

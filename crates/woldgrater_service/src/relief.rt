@@ -35,6 +35,7 @@ pub struct ReliefShown {
 }
 
 // A row's refusal, or the signals that its commands are worked from and what is left on its timers.
+#[tactic(auto, unfolding(crate::specs::Shown::relief_shown, relief_fan_group::specs::Step::signals_at, crate::specs::Shown::relief_shown_by))]
 fn relief_shown<'a>(
     times: &'a [f64; 512],
     integrals: &'a [f64; 512],
@@ -97,6 +98,7 @@ pub struct AlarmGiven {
     pub alarm: i64,
 }
 
+#[tactic(auto, unfolding(crate::specs::Shown::alarm_given))]
 fn alarm_given(remembered: RememberedAlarm) -> AlarmGiven
     ensures { result ≡ alarm_given remembered }
 {
