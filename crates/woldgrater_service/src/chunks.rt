@@ -36,6 +36,7 @@ pub struct Fed {
 }
 
 // The state before the first chunk.
+#[tactic(auto, unfolding(crate::specs::Chunks::started))]
 pub fn woldgrater_start() -> State
     ensures { result ≡ started }
 {
