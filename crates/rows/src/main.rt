@@ -1,5 +1,5 @@
 // Reads a row file from standard input and writes its answers to standard output (document 01, 'Row lines'). What came is answered and written
-// before more is read, so it serves a pipe. Where reading or writing fails it says so on standard error, and stops, with no exit status to say it by.
+// before more is read, so it serves a pipe. Where reading or writing fails it says so on standard error, and stops; its exit status is 0 then too.
 #![tactic(auto)]
 
 ghost use Rattle.std.specs.Prelude.{◌≡◌, ◌≤◌, length};
