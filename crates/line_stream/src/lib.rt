@@ -70,6 +70,7 @@ fn skip(chunk: &[u8], from: usize) -> usize
 }
 
 // Helper. The place of the first newline in a chunk from `from` on, or the chunk's end where there is none.
+#[tactic(auto, using(crate::proofs::Turns::newline_here, crate::proofs::Turns::newline_nowhere))]
 pub fn line_end(chunk: &[u8], from: usize) -> usize
     requires { from ≤ length chunk.now }
     ensures { result ≡ from + before_newline (drop from chunk.now) }

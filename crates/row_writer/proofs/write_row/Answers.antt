@@ -14,11 +14,11 @@ returns-then-not-fits c =
     let a = c.args in
     let long : length (words_line (forms_of a.table) (words_in a.words)) ≡ 21 * a.words.count + 1 =
     line_length a.table a.words (search rules) (search rules) c.requires.0 c.requires.1 in
-    no_room _ _ _ _ (ap not c.if-not-finite.false) _ long _ c.has_room-fits.ensures (ap not c.if-not-fits.true)
+    no_room _ _ _ _ (search rules) _ long _ c.has_room-fits.ensures (ap not c.if-not-fits.true)
 
 pub returns : goal.returns
 returns c =
     let a = c.args in
     let long : length (words_line (forms_of a.table) (words_in a.words)) ≡ 21 * a.words.count + 1 =
     line_length a.table a.words (search rules) (search rules) c.requires.0 c.requires.1 in
-    has_line _ _ _ _ (ap not c.if-not-finite.false) _ long _ c.has_room-fits.ensures (ap not c.if-not-fits.false) _ _ c.write_line-next.ensures
+    has_line _ _ _ _ (search rules) _ long _ c.has_room-fits.ensures (ap not c.if-not-fits.false) _ _ c.write_line-next.ensures
