@@ -53,7 +53,7 @@ extern "C" {
 #define WOLDGRATER_STACK_LINE 512
 #define WOLDGRATER_STACK_PLAY 35328
 #define WOLDGRATER_STACK_FEED 31232
-#define WOLDGRATER_STACK_START_FINISH 7680
+#define WOLDGRATER_STACK_START_FINISH 3072
 
 /* ---- What goes in and out. A flag of a row is a yes where it is not 0; one that is given is 0 or 1. What the words of a state say is
  * the library's own; any words are safe: they are read as some state. Names and order of the fields are those of the Rust records. In

@@ -49,8 +49,9 @@ class Sources(Names):
         return '\n'.join(lines) + '\n'
 
     def tactic(self, kind, name):
-        """The definition that a function's proof opens; the rest is found."""
-        return f'    #[tactic(auto, unfolding(crate::specs::{kind.page}::{name}))]'
+        """The definition that a function's proof opens, the rest is found; and that the compiler takes it into its caller: else a call of the
+        archives makes whole states on its stack to copy them."""
+        return f'    #[tactic(auto, unfolding(crate::specs::{kind.page}::{name}))]\n    #[inline(always)]'
 
     def copies(self, owner, fields):
         """A field that is no number is copied before it is handed on."""

@@ -13,6 +13,7 @@ pub struct EdgeWords {
 
 impl EdgeWords {
     #[tactic(auto, unfolding(crate::specs::Edge::edge_words))]
+    #[inline(always)]
     pub fn of(value: EdgeState) -> Self
         ensures { result ≡ edge_words value }
     {
@@ -22,6 +23,7 @@ impl EdgeWords {
     }
 
     #[tactic(auto, unfolding(crate::specs::Edge::edge_of))]
+    #[inline(always)]
     pub fn value(self) -> EdgeState
         ensures { result ≡ edge_of self }
     {

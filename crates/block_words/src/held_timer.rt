@@ -17,6 +17,7 @@ pub struct HeldTimerWords {
 
 impl HeldTimerWords {
     #[tactic(auto, unfolding(crate::specs::HeldTimer::held_timer_words))]
+    #[inline(always)]
     pub fn of(value: HeldTimerState) -> Self
         ensures { result ≡ held_timer_words value }
     {
@@ -30,6 +31,7 @@ impl HeldTimerWords {
     }
 
     #[tactic(auto, unfolding(crate::specs::HeldTimer::held_timer_of))]
+    #[inline(always)]
     pub fn value(self) -> HeldTimerState
         ensures { result ≡ held_timer_of self }
     {

@@ -13,6 +13,7 @@ pub struct HysteresisWords {
 
 impl HysteresisWords {
     #[tactic(auto, unfolding(crate::specs::Hysteresis::hysteresis_words))]
+    #[inline(always)]
     pub fn of(value: HysteresisState) -> Self
         ensures { result ≡ hysteresis_words value }
     {
@@ -22,6 +23,7 @@ impl HysteresisWords {
     }
 
     #[tactic(auto, unfolding(crate::specs::Hysteresis::hysteresis_of))]
+    #[inline(always)]
     pub fn value(self) -> HysteresisState
         ensures { result ≡ hysteresis_of self }
     {

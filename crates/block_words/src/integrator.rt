@@ -16,6 +16,7 @@ pub struct IntegratorWords {
 
 impl IntegratorWords {
     #[tactic(auto, unfolding(crate::specs::Integrator::integrator_words))]
+    #[inline(always)]
     pub fn of(value: Integrator) -> Self
         ensures { result ≡ integrator_words value }
     {
@@ -29,6 +30,7 @@ impl IntegratorWords {
     }
 
     #[tactic(auto, unfolding(crate::specs::Integrator::integrator_of))]
+    #[inline(always)]
     pub fn value(self) -> Integrator
         ensures { result ≡ integrator_of self }
     {

@@ -14,6 +14,7 @@ pub struct LatchWords {
 
 impl LatchWords {
     #[tactic(auto, unfolding(crate::specs::Latch::latch_words))]
+    #[inline(always)]
     pub fn of(value: LatchState) -> Self
         ensures { result ≡ latch_words value }
     {
@@ -24,6 +25,7 @@ impl LatchWords {
     }
 
     #[tactic(auto, unfolding(crate::specs::Latch::latch_of))]
+    #[inline(always)]
     pub fn value(self) -> LatchState
         ensures { result ≡ latch_of self }
     {

@@ -14,6 +14,7 @@ pub struct PidWords {
 
 impl PidWords {
     #[tactic(auto, unfolding(crate::specs::Pid::pid_words))]
+    #[inline(always)]
     pub fn of(value: PidState) -> Self
         ensures { result ≡ pid_words value }
     {
@@ -25,6 +26,7 @@ impl PidWords {
     }
 
     #[tactic(auto, unfolding(crate::specs::Pid::pid_of))]
+    #[inline(always)]
     pub fn value(self) -> PidState
         ensures { result ≡ pid_of self }
     {

@@ -16,6 +16,7 @@ pub struct PidWithResetWords {
 
 impl PidWithResetWords {
     #[tactic(auto, unfolding(crate::specs::PidWithReset::pid_with_reset_words))]
+    #[inline(always)]
     pub fn of(value: PidWithResetState) -> Self
         ensures { result ≡ pid_with_reset_words value }
     {
@@ -28,6 +29,7 @@ impl PidWithResetWords {
     }
 
     #[tactic(auto, unfolding(crate::specs::PidWithReset::pid_with_reset_of))]
+    #[inline(always)]
     pub fn value(self) -> PidWithResetState
         ensures { result ≡ pid_with_reset_of self }
     {

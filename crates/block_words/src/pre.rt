@@ -13,6 +13,7 @@ pub struct PreWords {
 
 impl PreWords {
     #[tactic(auto, unfolding(crate::specs::Pre::pre_words))]
+    #[inline(always)]
     pub fn of(value: PreState) -> Self
         ensures { result ≡ pre_words value }
     {
@@ -22,6 +23,7 @@ impl PreWords {
     }
 
     #[tactic(auto, unfolding(crate::specs::Pre::pre_of))]
+    #[inline(always)]
     pub fn value(self) -> PreState
         ensures { result ≡ pre_of self }
     {

@@ -16,6 +16,7 @@ pub struct PresentTimerWords {
 
 impl PresentTimerWords {
     #[tactic(auto, unfolding(crate::specs::PresentTimer::present_timer_words))]
+    #[inline(always)]
     pub fn of(value: PresentTimerState) -> Self
         ensures { result ≡ present_timer_words value }
     {
@@ -28,6 +29,7 @@ impl PresentTimerWords {
     }
 
     #[tactic(auto, unfolding(crate::specs::PresentTimer::present_timer_of))]
+    #[inline(always)]
     pub fn value(self) -> PresentTimerState
         ensures { result ≡ present_timer_of self }
     {

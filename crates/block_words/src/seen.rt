@@ -14,6 +14,7 @@ pub struct SeenWords {
 impl SeenWords {
     // The number of the variant, and what it holds; 0 for what the others would.
     #[tactic(auto, unfolding(crate::specs::Seen::seen_words))]
+    #[inline(always)]
     pub fn of(value: Seen) -> Self
         ensures { result ≡ seen_words value }
     {
@@ -28,6 +29,7 @@ impl SeenWords {
 
     // A number that no variant has is read as `At`.
     #[tactic(auto, unfolding(crate::specs::Seen::seen_of))]
+    #[inline(always)]
     pub fn value(self) -> Seen
         ensures { result ≡ seen_of self }
     {

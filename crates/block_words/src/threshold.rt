@@ -17,6 +17,7 @@ pub struct ThresholdWords {
 
 impl ThresholdWords {
     #[tactic(auto, unfolding(crate::specs::Threshold::threshold_words))]
+    #[inline(always)]
     pub fn of(value: ThresholdState) -> Self
         ensures { result ≡ threshold_words value }
     {
@@ -30,6 +31,7 @@ impl ThresholdWords {
     }
 
     #[tactic(auto, unfolding(crate::specs::Threshold::threshold_of))]
+    #[inline(always)]
     pub fn value(self) -> ThresholdState
         ensures { result ≡ threshold_of self }
     {

@@ -13,6 +13,7 @@ pub struct ThresholdModeWords {
 impl ThresholdModeWords {
     // The number of the variant, and what it holds; 0 for what the others would.
     #[tactic(auto, unfolding(crate::specs::ThresholdMode::threshold_mode_words))]
+    #[inline(always)]
     pub fn of(value: ThresholdMode) -> Self
         ensures { result ≡ threshold_mode_words value }
     {
@@ -24,6 +25,7 @@ impl ThresholdModeWords {
 
     // A number that no variant has is read as `Less`.
     #[tactic(auto, unfolding(crate::specs::ThresholdMode::threshold_mode_of))]
+    #[inline(always)]
     pub fn value(self) -> ThresholdMode
         ensures { result ≡ threshold_mode_of self }
     {

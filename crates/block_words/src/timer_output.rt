@@ -14,6 +14,7 @@ pub struct TimerOutputWords {
 
 impl TimerOutputWords {
     #[tactic(auto, unfolding(crate::specs::TimerOutput::timer_output_words))]
+    #[inline(always)]
     pub fn of(value: TimerOutput) -> Self
         ensures { result ≡ timer_output_words value }
     {
@@ -24,6 +25,7 @@ impl TimerOutputWords {
     }
 
     #[tactic(auto, unfolding(crate::specs::TimerOutput::timer_output_zero))]
+    #[inline(always)]
     pub fn zero() -> Self
         ensures { result ≡ timer_output_zero }
     {

@@ -17,6 +17,7 @@ pub struct TrueDelayWords {
 
 impl TrueDelayWords {
     #[tactic(auto, unfolding(crate::specs::TrueDelay::true_delay_words))]
+    #[inline(always)]
     pub fn of(value: TrueDelayState) -> Self
         ensures { result ≡ true_delay_words value }
     {
@@ -30,6 +31,7 @@ impl TrueDelayWords {
     }
 
     #[tactic(auto, unfolding(crate::specs::TrueDelay::true_delay_of))]
+    #[inline(always)]
     pub fn value(self) -> TrueDelayState
         ensures { result ≡ true_delay_of self }
     {

@@ -16,6 +16,7 @@ pub struct TrueDelayOnInitWords {
 
 impl TrueDelayOnInitWords {
     #[tactic(auto, unfolding(crate::specs::TrueDelayOnInit::true_delay_on_init_words))]
+    #[inline(always)]
     pub fn of(value: TrueDelayOnInitState) -> Self
         ensures { result ≡ true_delay_on_init_words value }
     {
@@ -28,6 +29,7 @@ impl TrueDelayOnInitWords {
     }
 
     #[tactic(auto, unfolding(crate::specs::TrueDelayOnInit::true_delay_on_init_of))]
+    #[inline(always)]
     pub fn value(self) -> TrueDelayOnInitState
         ensures { result ≡ true_delay_on_init_of self }
     {

@@ -18,6 +18,7 @@ pub struct TrueFalseHoldWords {
 
 impl TrueFalseHoldWords {
     #[tactic(auto, unfolding(crate::specs::TrueFalseHold::true_false_hold_words))]
+    #[inline(always)]
     pub fn of(value: TrueFalseHoldState) -> Self
         ensures { result ≡ true_false_hold_words value }
     {
@@ -32,6 +33,7 @@ impl TrueFalseHoldWords {
     }
 
     #[tactic(auto, unfolding(crate::specs::TrueFalseHold::true_false_hold_of))]
+    #[inline(always)]
     pub fn value(self) -> TrueFalseHoldState
         ensures { result ≡ true_false_hold_of self }
     {

@@ -16,6 +16,7 @@ pub struct DamperLimitsWords {
 
 impl DamperLimitsWords {
     #[tactic(auto, unfolding(crate::specs::DamperLimits::damper_limits_words))]
+    #[inline(always)]
     pub fn of(value: DamperLimits) -> Self
         ensures { result ≡ damper_limits_words value }
     {
@@ -29,6 +30,7 @@ impl DamperLimitsWords {
     }
 
     #[tactic(auto, unfolding(crate::specs::DamperLimits::damper_limits_zero))]
+    #[inline(always)]
     pub fn zero() -> Self
         ensures { result ≡ damper_limits_zero }
     {

@@ -17,6 +17,7 @@ pub struct EconomizerWords {
 
 impl EconomizerWords {
     #[tactic(auto, unfolding(crate::specs::Economizer::economizer_words))]
+    #[inline(always)]
     pub fn of(value: EconomizerState) -> Self
         ensures { result ≡ economizer_words value }
     {
@@ -31,6 +32,7 @@ impl EconomizerWords {
     }
 
     #[tactic(auto, unfolding(crate::specs::Economizer::economizer_of))]
+    #[inline(always)]
     pub fn value(self) -> EconomizerState
         ensures { result ≡ economizer_of self }
     {

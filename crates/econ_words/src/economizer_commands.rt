@@ -16,6 +16,7 @@ pub struct EconomizerCommandsWords {
 
 impl EconomizerCommandsWords {
     #[tactic(auto, unfolding(crate::specs::EconomizerCommands::economizer_commands_words))]
+    #[inline(always)]
     pub fn of(value: EconomizerCommands) -> Self
         ensures { result ≡ economizer_commands_words value }
     {
@@ -28,6 +29,7 @@ impl EconomizerCommandsWords {
     }
 
     #[tactic(auto, unfolding(crate::specs::EconomizerCommands::economizer_commands_zero))]
+    #[inline(always)]
     pub fn zero() -> Self
         ensures { result ≡ economizer_commands_zero }
     {

@@ -20,6 +20,7 @@ pub struct EconomizerRowWords {
 
 impl EconomizerRowWords {
     #[tactic(auto, unfolding(crate::specs::EconomizerRow::economizer_row_of))]
+    #[inline(always)]
     pub fn value(self) -> EconomizerRow
         ensures { result ≡ economizer_row_of self }
     {

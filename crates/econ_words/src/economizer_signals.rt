@@ -20,6 +20,7 @@ pub struct EconomizerSignalsWords {
 
 impl EconomizerSignalsWords {
     #[tactic(auto, unfolding(crate::specs::EconomizerSignals::economizer_signals_words))]
+    #[inline(always)]
     pub fn of(value: EconomizerSignals) -> Self
         ensures { result ≡ economizer_signals_words value }
     {
@@ -36,6 +37,7 @@ impl EconomizerSignalsWords {
     }
 
     #[tactic(auto, unfolding(crate::specs::EconomizerSignals::economizer_signals_zero))]
+    #[inline(always)]
     pub fn zero() -> Self
         ensures { result ≡ economizer_signals_zero }
     {

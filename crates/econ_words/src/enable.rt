@@ -18,6 +18,7 @@ pub struct EnableWords {
 
 impl EnableWords {
     #[tactic(auto, unfolding(crate::specs::Enable::enable_words))]
+    #[inline(always)]
     pub fn of(value: EnableState) -> Self
         ensures { result ≡ enable_words value }
     {
@@ -34,6 +35,7 @@ impl EnableWords {
     }
 
     #[tactic(auto, unfolding(crate::specs::Enable::enable_of))]
+    #[inline(always)]
     pub fn value(self) -> EnableState
         ensures { result ≡ enable_of self }
     {

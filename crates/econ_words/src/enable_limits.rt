@@ -14,6 +14,7 @@ pub struct EnableLimitsWords {
 
 impl EnableLimitsWords {
     #[tactic(auto, unfolding(crate::specs::EnableLimits::enable_limits_words))]
+    #[inline(always)]
     pub fn of(value: EnableLimits) -> Self
         ensures { result ≡ enable_limits_words value }
     {
@@ -25,6 +26,7 @@ impl EnableLimitsWords {
     }
 
     #[tactic(auto, unfolding(crate::specs::EnableLimits::enable_limits_zero))]
+    #[inline(always)]
     pub fn zero() -> Self
         ensures { result ≡ enable_limits_zero }
     {

@@ -18,6 +18,7 @@ pub struct EnableSignalsWords {
 
 impl EnableSignalsWords {
     #[tactic(auto, unfolding(crate::specs::EnableSignals::enable_signals_words))]
+    #[inline(always)]
     pub fn of(value: EnableSignals) -> Self
         ensures { result ≡ enable_signals_words value }
     {
@@ -32,6 +33,7 @@ impl EnableSignalsWords {
     }
 
     #[tactic(auto, unfolding(crate::specs::EnableSignals::enable_signals_zero))]
+    #[inline(always)]
     pub fn zero() -> Self
         ensures { result ≡ enable_signals_zero }
     {

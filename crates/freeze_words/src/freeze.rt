@@ -37,6 +37,7 @@ pub struct FreezeWords {
 
 impl FreezeWords {
     #[tactic(auto, unfolding(crate::specs::Freeze::freeze_words))]
+    #[inline(always)]
     pub fn of(value: FreezeState) -> Self
         ensures { result ≡ freeze_words value }
     {
@@ -83,6 +84,7 @@ impl FreezeWords {
     }
 
     #[tactic(auto, unfolding(crate::specs::Freeze::freeze_of))]
+    #[inline(always)]
     pub fn value(self) -> FreezeState
         ensures { result ≡ freeze_of self }
     {

@@ -24,6 +24,7 @@ pub struct FreezeCallsWords {
 
 impl FreezeCallsWords {
     #[tactic(auto, unfolding(crate::specs::FreezeCalls::freeze_calls_words))]
+    #[inline(always)]
     pub fn of(value: FreezeCalls) -> Self
         ensures { result ≡ freeze_calls_words value }
     {
@@ -48,6 +49,7 @@ impl FreezeCallsWords {
     }
 
     #[tactic(auto, unfolding(crate::specs::FreezeCalls::freeze_calls_zero))]
+    #[inline(always)]
     pub fn zero() -> Self
         ensures { result ≡ freeze_calls_zero }
     {

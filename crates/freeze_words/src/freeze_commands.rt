@@ -23,6 +23,7 @@ pub struct FreezeCommandsWords {
 
 impl FreezeCommandsWords {
     #[tactic(auto, unfolding(crate::specs::FreezeCommands::freeze_commands_words))]
+    #[inline(always)]
     pub fn of(value: FreezeCommands) -> Self
         ensures { result ≡ freeze_commands_words value }
     {
@@ -42,6 +43,7 @@ impl FreezeCommandsWords {
     }
 
     #[tactic(auto, unfolding(crate::specs::FreezeCommands::freeze_commands_zero))]
+    #[inline(always)]
     pub fn zero() -> Self
         ensures { result ≡ freeze_commands_zero }
     {

@@ -17,6 +17,7 @@ pub struct FreezeLeftWords {
 
 impl FreezeLeftWords {
     #[tactic(auto, unfolding(crate::specs::FreezeLeft::freeze_left_words))]
+    #[inline(always)]
     pub fn of(value: FreezeLeft) -> Self
         ensures { result ≡ freeze_left_words value }
     {
@@ -31,6 +32,7 @@ impl FreezeLeftWords {
     }
 
     #[tactic(auto, unfolding(crate::specs::FreezeLeft::freeze_left_zero))]
+    #[inline(always)]
     pub fn zero() -> Self
         ensures { result ≡ freeze_left_zero }
     {

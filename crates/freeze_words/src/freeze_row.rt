@@ -24,6 +24,7 @@ pub struct FreezeRowWords {
 
 impl FreezeRowWords {
     #[tactic(auto, unfolding(crate::specs::FreezeRow::freeze_row_of))]
+    #[inline(always)]
     pub fn value(self) -> FreezeRow
         ensures { result ≡ freeze_row_of self }
     {

@@ -26,6 +26,7 @@ pub struct FreezeSignalsWords {
 
 impl FreezeSignalsWords {
     #[tactic(auto, unfolding(crate::specs::FreezeSignals::freeze_signals_words))]
+    #[inline(always)]
     pub fn of(value: FreezeSignals) -> Self
         ensures { result ≡ freeze_signals_words value }
     {
@@ -48,6 +49,7 @@ impl FreezeSignalsWords {
     }
 
     #[tactic(auto, unfolding(crate::specs::FreezeSignals::freeze_signals_zero))]
+    #[inline(always)]
     pub fn zero() -> Self
         ensures { result ≡ freeze_signals_zero }
     {

@@ -13,6 +13,7 @@ pub struct KindWords {
 impl KindWords {
     // The number of the variant, and what it holds; 0 for what the others would.
     #[tactic(auto, unfolding(crate::specs::Kind::kind_words))]
+    #[inline(always)]
     pub fn of(value: Kind) -> Self
         ensures { result ≡ kind_words value }
     {
@@ -25,6 +26,7 @@ impl KindWords {
 
     // A number that no variant has is read as `Econ`.
     #[tactic(auto, unfolding(crate::specs::Kind::kind_of))]
+    #[inline(always)]
     pub fn value(self) -> Kind
         ensures { result ≡ kind_of self }
     {

@@ -15,6 +15,7 @@ pub struct PhaseWords {
 impl PhaseWords {
     // The number of the variant, and what it holds; 0 for what the others would.
     #[tactic(auto, unfolding(crate::specs::Phase::phase_words))]
+    #[inline(always)]
     pub fn of(value: Phase) -> Self
         ensures { result ≡ phase_words value }
     {
@@ -36,6 +37,7 @@ impl PhaseWords {
 
     // A number that no variant has is read as `Stopped`.
     #[tactic(auto, unfolding(crate::specs::Phase::phase_of))]
+    #[inline(always)]
     pub fn value(self) -> Phase
         ensures { result ≡ phase_of self }
     {

@@ -21,6 +21,7 @@ pub struct RowReaderWords {
 
 impl RowReaderWords {
     #[tactic(auto, unfolding(crate::specs::RowReader::row_reader_words))]
+    #[inline(always)]
     pub fn of(value: RowReader) -> Self
         ensures { result ≡ row_reader_words value }
     {
@@ -39,6 +40,7 @@ impl RowReaderWords {
     }
 
     #[tactic(auto, unfolding(crate::specs::RowReader::row_reader_of))]
+    #[inline(always)]
     pub fn value(self) -> RowReader
         ensures { result ≡ row_reader_of self }
     {

@@ -4,7 +4,7 @@ use native.Mathlib.Omega.{arith}
 use mathlib.Core.Path.{◌≡◌, refl, ap, ◌∙◌}
 use mathlib.Core.List.{List, [], ◌∷◌, map}
 use lib.Dec.{eqb}
-use lib.Ieee.{of_int, round, of_bits, nan}
+use lib.Ieee.{of_int, round, of_bits, div, nan}
 use lib.ListN.{get_or, length}
 use Rattle.reals.specs.Four.{real}
 use Rattle.reals.specs.Switch.{bool_to_real}
@@ -13,7 +13,7 @@ use Rattle.relief_fans.proofs.AsCoded.{weights, supplies, as_real, entries}
 
 -- the bytes, made floats, are the constants of the definitions, to the bit
 pub table_is : map as_real weights ∷ map entries supplies ≡ sta_vec ∷ rel_fan_mat
-unfolding of_int round of_bits bool_to_real
+unfolding of_int round of_bits div bool_to_real
 table_is = refl
 
 -- an element of a list, mapped, is that of the mapped list

@@ -17,6 +17,7 @@ pub struct DamperEnableWords {
 
 impl DamperEnableWords {
     #[tactic(auto, unfolding(crate::specs::DamperEnable::damper_enable_words))]
+    #[inline(always)]
     pub fn of(value: DamperEnable) -> Self
         ensures { result ≡ damper_enable_words value }
     {
@@ -31,6 +32,7 @@ impl DamperEnableWords {
     }
 
     #[tactic(auto, unfolding(crate::specs::DamperEnable::damper_enable_zero))]
+    #[inline(always)]
     pub fn zero() -> Self
         ensures { result ≡ damper_enable_zero }
     {

@@ -19,6 +19,7 @@ pub struct PressureControlWords {
 
 impl PressureControlWords {
     #[tactic(auto, unfolding(crate::specs::PressureControl::pressure_control_words))]
+    #[inline(always)]
     pub fn of(value: PressureControl) -> Self
         ensures { result ≡ pressure_control_words value }
     {
@@ -36,6 +37,7 @@ impl PressureControlWords {
     }
 
     #[tactic(auto, unfolding(crate::specs::PressureControl::pressure_control_zero))]
+    #[inline(always)]
     pub fn zero() -> Self
         ensures { result ≡ pressure_control_zero }
     {

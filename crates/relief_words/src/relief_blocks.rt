@@ -42,6 +42,7 @@ pub struct ReliefBlocksWords {
 
 impl ReliefBlocksWords {
     #[tactic(auto, unfolding(crate::specs::ReliefBlocks::relief_blocks_words))]
+    #[inline(always)]
     pub fn of(value: ReliefBlocks) -> Self
         ensures { result ≡ relief_blocks_words value }
     {
@@ -95,6 +96,7 @@ impl ReliefBlocksWords {
     }
 
     #[tactic(auto, unfolding(crate::specs::ReliefBlocks::relief_blocks_of))]
+    #[inline(always)]
     pub fn value(self) -> ReliefBlocks
         ensures { result ≡ relief_blocks_of self }
     {

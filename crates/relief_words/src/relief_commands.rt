@@ -20,6 +20,7 @@ pub struct ReliefCommandsWords {
 
 impl ReliefCommandsWords {
     #[tactic(auto, unfolding(crate::specs::ReliefCommands::relief_commands_words))]
+    #[inline(always)]
     pub fn of(value: ReliefCommands) -> Self
         ensures { result ≡ relief_commands_words value }
     {
@@ -37,6 +38,7 @@ impl ReliefCommandsWords {
     }
 
     #[tactic(auto, unfolding(crate::specs::ReliefCommands::relief_commands_zero))]
+    #[inline(always)]
     pub fn zero() -> Self
         ensures { result ≡ relief_commands_zero }
     {

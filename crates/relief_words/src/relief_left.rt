@@ -14,6 +14,7 @@ pub struct ReliefLeftWords {
 
 impl ReliefLeftWords {
     #[tactic(auto, unfolding(crate::specs::ReliefLeft::relief_left_words))]
+    #[inline(always)]
     pub fn of(value: ReliefLeft) -> Self
         ensures { result ≡ relief_left_words value }
     {
@@ -25,6 +26,7 @@ impl ReliefLeftWords {
     }
 
     #[tactic(auto, unfolding(crate::specs::ReliefLeft::relief_left_zero))]
+    #[inline(always)]
     pub fn zero() -> Self
         ensures { result ≡ relief_left_zero }
     {

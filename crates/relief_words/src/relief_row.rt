@@ -17,6 +17,7 @@ pub struct ReliefRowWords {
 
 impl ReliefRowWords {
     #[tactic(auto, unfolding(crate::specs::ReliefRow::relief_row_of))]
+    #[inline(always)]
     pub fn value(self) -> ReliefRow
         ensures { result ≡ relief_row_of self }
     {

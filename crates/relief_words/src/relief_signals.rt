@@ -19,6 +19,7 @@ pub struct ReliefSignalsWords {
 
 impl ReliefSignalsWords {
     #[tactic(auto, unfolding(crate::specs::ReliefSignals::relief_signals_words))]
+    #[inline(always)]
     pub fn of(value: ReliefSignals) -> Self
         ensures { result ≡ relief_signals_words value }
     {
@@ -35,6 +36,7 @@ impl ReliefSignalsWords {
     }
 
     #[tactic(auto, unfolding(crate::specs::ReliefSignals::relief_signals_zero))]
+    #[inline(always)]
     pub fn zero() -> Self
         ensures { result ≡ relief_signals_zero }
     {

@@ -21,6 +21,7 @@ pub struct StageDownWords {
 
 impl StageDownWords {
     #[tactic(auto, unfolding(crate::specs::StageDown::stage_down_words))]
+    #[inline(always)]
     pub fn of(value: StageDown) -> Self
         ensures { result ≡ stage_down_words value }
     {
@@ -42,6 +43,7 @@ impl StageDownWords {
     }
 
     #[tactic(auto, unfolding(crate::specs::StageDown::stage_down_zero))]
+    #[inline(always)]
     pub fn zero() -> Self
         ensures { result ≡ stage_down_zero }
     {

@@ -21,6 +21,7 @@ pub struct StageUpWords {
 
 impl StageUpWords {
     #[tactic(auto, unfolding(crate::specs::StageUp::stage_up_words))]
+    #[inline(always)]
     pub fn of(value: StageUp) -> Self
         ensures { result ≡ stage_up_words value }
     {
@@ -41,6 +42,7 @@ impl StageUpWords {
     }
 
     #[tactic(auto, unfolding(crate::specs::StageUp::stage_up_zero))]
+    #[inline(always)]
     pub fn zero() -> Self
         ensures { result ≡ stage_up_zero }
     {

@@ -87,7 +87,9 @@ fn stop(out: &mut [u8], reader: RowReader) -> Passed
     }
 }
 
-// The first line, without its newline: rows of its kind from a fresh state, or 6 where it names none.
+// The first line, without its newline: rows of its kind from a fresh state, or 6 where it names none. It is kept a call of its own, since `feed` would hold its
+// states on the stack for every chunk.
+#[inline(never)]
 fn begin(
     line: &[u8],
     out: &mut [u8],

@@ -1,3 +1,3 @@
--- Laws that the proofs of the exported functions cite, and the theorem on calls one after another.
+-- Laws that the proofs of the functions that are exported cite, and the theorem on calls one after another.
 pub mod ReliefCalls
 pub mod Calls

@@ -1,4 +1,4 @@
-// What a controller in C or Rust links (include/woldgrater.h): a call a row. Callers prove nothing, so nothing is required of them but what their types say.
+// What woldgrater_c exports to a controller in C or Rust (include/woldgrater.h): a call a row. Callers prove nothing, so nothing is required of them but what their types say.
 #![tactic(auto)]
 
 pub mod econ;

@@ -1,4 +1,4 @@
--- Laws that the proofs of the exported functions cite, and the theorem on calls.
+-- Laws that the proofs of the functions that are exported cite, and the theorem on calls.
 pub mod Playing
 pub mod Carrying
 pub mod Calling

@@ -1,4 +1,4 @@
--- What the exported functions cite.
+-- What the functions that are exported cite.
 pub mod Line
 pub mod Shown
 pub mod Play

@@ -1,4 +1,4 @@
-// What displays, loggers and testers link beside it (include/woldgrater.h). Callers prove nothing, so nothing is required of them but what their types say.
+// What woldgrater_service_c exports to displays, loggers and testers (include/woldgrater.h). Callers prove nothing, so nothing is required of them but what their types say.
 #![tactic(auto)]
 
 pub mod line; // what a written line gives
