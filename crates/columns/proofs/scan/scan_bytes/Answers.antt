@@ -65,7 +65,7 @@ returns-then-first-gt57 c =
 pub returns-then-i-eq21-3 : goal.returns-then-i-eq21-3
 returns-then-i-eq21-3 c =
     let f = first (goal.at.returns-then-i-eq21-3 c).Else-first-gt57 (leading (goal.at.returns-then-i-eq21-3 c).Joined-column-i-eq45) in
-    let z : slice_index_or c.args.column.now c.if-column-i-eq45.i 0 - 48 ≡ 0 = omega (arith, c.if-first-eq48.true) in
+    let z : slice_index_or c.args.column.now c.if-column-i-eq45.i 0 - 48 ≡ 0 = omega arith in
     rw z at (whole c.args.column.now c.if-column-ne21.false (c.if-column-i-eq45.i + 1) c.if-column-i-eq45.negative (slice_index_or c.args.column.now c.if-column-i-eq45.i 0 - 48) f.1 c.if-i-eq21-3.true)
 
 pub returns-then-first-eq48 : goal.returns-then-first-eq48
@@ -77,7 +77,7 @@ returns-then-first-eq48 c =
 pub loop-i-2-init : goal.loop-i-2-init
 loop-i-2-init c =
     let f = first (goal.at.loop-i-2-init c).Else-first-gt57 (leading (goal.at.loop-i-2-init c).Joined-column-i-eq45) in
-    (omega (arith, f.0), omega (arith, c.if-first-eq48.false, c.if-first-lt48.false), f.1)
+    (omega (arith, f.0), omega arith, f.1)
 
 pub returns-then-byte-lt48 : goal.returns-then-byte-lt48
 returns-then-byte-lt48 c = next_low _ c.if-column-ne21.false _ _ _ c.loop-i-2.invariant.2 c.loop-i-2-test.true c.if-byte-lt48.true
