@@ -61,7 +61,7 @@ module _ (others : ℕ → FreezeOthers) where
   unfoldable pub signalled : (FreezeSignals → Bool) → List Written → List Bool
   signalled f rows = run (λ state row. f (freeze_signals state row)) freeze_returned freeze_fresh (map freeze_row_of rows)
 
--- cold at 277.55 (les_thr)
+-- cold at 277.55 (lesThr)
 abbrev pub is_cold : FreezeSignals → Bool
 is_cold y = y.calls.les_thr_y
 

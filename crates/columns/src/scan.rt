@@ -107,6 +107,7 @@ fn wide(byte: u8) -> u64
 }
 
 // The number of two digits. The byte of a digit is 48 above it.
+#[tactic(auto, using(crate::proofs::Digits::number_two))]
 fn two(column: &[u8], at: usize) -> u64
     requires { (at + 2 ≤ length column.now) × (every is_digit column.now at 2 ≡ true) }
     ensures { result ≡ number_at column.now at 2 }
@@ -148,6 +149,7 @@ fn eight(column: &[u8], at: usize) -> u64
 }
 
 // The number of the last 19 digits.
+#[tactic(auto, using(crate::proofs::Digits::nineteen))]
 fn nineteen(column: &[u8]) -> u64
     requires { (length column.now ≡ 21) × (every is_digit column.now 2 19 ≡ true) }
     ensures { result ≡ number_at column.now 2 19 }

@@ -44,7 +44,7 @@ return_delay = of_bits binary64 4640537203540230144
 abbrev pub no_freeze_stage : ℤ
 no_freeze_stage = pos 0
 
--- ---- Modulations.Reliefs: the supply temperature signal from u_min to u_max; halfway the outdoor damper is at its upper limit and the return damper at its own
+-- ---- Modulations.Reliefs: the supply temperature signal from uMin to uMax; halfway the outdoor damper is at its upper limit and the return damper at its own
 abbrev pub u_min : Float
 u_min = of_bits binary64 13821547256400052224
 

@@ -12,7 +12,7 @@ use Rattle.economizer_controller.specs.Integers.{integers_equal}
 unfoldable pub minimum_outdoor_air_loop_enabled : Bool → ℤ → Bool
 minimum_outdoor_air_loop_enabled fan mode = fan && integers_equal mode occupied
 
--- Over the loop signals y_min .. uRetDam_min the minimum of the outdoor damper rises from shut to its maximum; over uRetDam_min .. y_max the maximum of the
+-- Over the loop signals yMin .. uRetDam_min the minimum of the outdoor damper rises from shut to its maximum; over uRetDam_min .. yMax the maximum of the
 -- return damper falls from open to its minimum. Where the loop is off, the outdoor damper's maximum is shut and the return damper's minimum open.
 unfoldable pub damper_limits : Float → Bool → DamperLimits
 damper_limits signal enabled =

@@ -14,8 +14,8 @@ use Rattle.freeze_protection.specs.declared.types.FreezeCalls.{FreezeCalls}
 use Rattle.freeze_protection.specs.declared.types.FreezeSignals.{FreezeSignals}
 use Rattle.freeze_protection.specs.Constants.{stage1_setpoint, stage3_setpoint}
 
--- what the supply air temperature calls for, of each timer its whole answer: les_thr cold for stage 1 and its 5 minutes (tim); gre_thr warm, its 5 minutes (tim1) and their end (endStaOne);
--- les_thr1 cold for stage 2, its 5 minutes (tim2), the hold of stage 2 (holSta2) and its 15 minutes (tim3); les_thr2 cold for stage 3 and its 5 minutes (tim4)
+-- what the supply air temperature calls for, of each timer its whole answer: lesThr cold for stage 1 and its 5 minutes (tim); greThr warm, its 5 minutes (tim1) and their end (endStaOne);
+-- lesThr1 cold for stage 2, its 5 minutes (tim2), the hold of stage 2 (holSta2) and its 15 minutes (tim3); lesThr2 cold for stage 3 and its 5 minutes (tim4)
 unfoldable pub freeze_calls : FreezeState → FreezeRow → FreezeCalls
 freeze_calls state row =
     let t = row.time in
@@ -45,7 +45,7 @@ unfoldable pub stage_number : Bool → Bool → Bool → ℕ
 stage_number three two one = cond three 3 (cond two 2 (cond one 1 0))
 
 -- the three latches, and the two heating loops. Stage 3 (lat1): from a rise of its call to a reset. Stage 2 (lat2): from a rise of its hold until the hold has been on
--- for an hour (tim5, end_sta_two), which may never come (F5). Stage 1 (lat): from a rise of its call (tim or that end of stage 2) until the supply air has recovered (endStaOne)
+-- for an hour (tim5, endStaTwo), which may never come (F5). Stage 1 (lat): from a rise of its call (tim or that end of stage 2) until the supply air has recovered (endStaOne)
 unfoldable pub freeze_signals : FreezeState → FreezeRow → FreezeSignals
 freeze_signals state row =
     let t = row.time in

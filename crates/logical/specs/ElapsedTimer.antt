@@ -1,4 +1,4 @@
--- CDL.Logical.Timer, its output y: y = if u then time − entry_time else 0. `timer` of cdl_recurrences.rs.
+-- CDL.Logical.Timer, its output y: y = if u then time − entryTime else 0. `timer` of cdl_recurrences.rs.
 use Rattle.std.specs.Prelude.{Bool, false, Float}
 use Rattle.reals.specs.declared.seen.Seen.TheVariants.{Never}
 use Rattle.reals.specs.Seen.{seen_elapsed}

@@ -13,7 +13,7 @@ unfoldable pub held_timer_new : Float → HeldTimerState
 held_timer_new threshold = record { threshold = threshold; entry_time = Never; prev_u = false; passed = le threshold plus_zero }
 
 -- when u rises, passed = threshold <= 0; elsewhen u and the elapsed time is the threshold or more, true; elsewhen u falls, false; else it is kept. (The
--- model tests time >= t + entry_time, the Rust the difference of the two times.) Beside it the elapsed time
+-- model tests time >= t + entryTime, the Rust the difference of the two times.) Beside it the elapsed time
 unfoldable pub held_timer_output : HeldTimerState → Float → Bool → TimerOutput
 held_timer_output s t u =
     let rises = u && not s.prev_u in

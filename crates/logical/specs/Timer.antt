@@ -1,4 +1,4 @@
--- What the timers share (CDL.Logical.Timer): entry_time, the time at which u became true, the time since then, and what is left.
+-- What the timers share (CDL.Logical.Timer): entryTime, the time at which u became true, the time since then, and what is left.
 use Rattle.std.specs.Prelude.{Bool, cond, ◌&&◌, Float}
 use Rattle.std.specs.Float.{binary64}
 use Rattle.std.specs.Float.Ieee.{sub}
@@ -10,12 +10,12 @@ use Rattle.reals.specs.Seen.{seen_elapsed}
 use Rattle.reals.specs.Switch.{switch}
 use Rattle.logical.specs.declared.timer.TimerOutput.{TimerOutput}
 
--- entry_time at a row with input u at t, from that of the row before and pre(u): t where u rises, kept while u stays true, none while u is false.
+-- entryTime at a row with input u at t, from that of the row before and pre(u): t where u rises, kept while u stays true, none while u is false.
 -- Both `TimerState` keep the number after a fall and do not read it again before the next rise.
 unfoldable pub entry_time : Seen → Bool → Float → Bool → Seen
 entry_time entry pre_u t u = cond u (cond pre_u entry (At t)) Never
 
--- time minus entry_time; 0 where u is false or has just risen (document 02, job 3): `y` in `TimerState::output` of freeze_protection.rs; relief_fan_group.rs
+-- time minus entryTime; 0 where u is false or has just risen (document 02, job 3): `y` in `TimerState::output` of freeze_protection.rs; relief_fan_group.rs
 -- tests it only where it is a difference. A state with no entry while u stays true, which no run reaches, has 0
 unfoldable pub elapsed_time : Seen → Bool → Float → Bool → Float
 elapsed_time entry pre_u t u = switch (u && pre_u) (seen_elapsed entry t) plus_zero

@@ -44,7 +44,7 @@ first_time start [] = start
 first_time start (p ∷ ps) = p.time
 
 -- How long the averaged time is: `denom` of the Rust's `output`. From delta after the start on, it begins at the latest of cutoff, first point and start, and is at
--- least min_delta; before that it begins at the start, and start_offset is added.
+-- least minDelta; before that it begins at the start, and startOffset is added.
 unfoldable pub averaged_time : Float → Float → Float → Float
 averaged_time start first t =
     cond (le (add binary64 start delta) t)

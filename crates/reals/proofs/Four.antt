@@ -81,3 +81,8 @@ module _ {A : Type 0} where
 
   pub ends : {f : A → ℕ → A} {z : A} {n : ℕ} {y : A} → Steps f z n y → 4 ≤ n → y ≡ fold4 f z
   ends {f} {z} {n} {y} h l = let e : n ≡ 4 = omega arith in rw e at h.so
+
+-- what a loop that fills an array, and one that takes steps, is proved by: its start, a turn, its end
+pub ruleset fill_loop = (start, more, done)
+
+pub ruleset step_loop = (begin, step, ends)

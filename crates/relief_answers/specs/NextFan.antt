@@ -1,9 +1,9 @@
--- The next fan to start and the next to stop: a table of a row's own supply flags and proofs, written from what ReliefFanGroup.mo says of them (sta_vec, rel_fan_mat).
+-- The next fan to start and the next to stop: a table of a row's own supply flags and proofs, written from what ReliefFanGroup.mo says of them (staVec, relFanMat).
 -- Indices 0 to 3 are fans 1 to 4. proofs/NextFan.antt has the fact that the sequence works the same from its blocks.
 use Rattle.std.specs.Prelude.{ℕ, zero, suc, Bool, not, ◌&&◌, ◌||◌, cond, List, [], ◌∷◌}
 use Rattle.reals.specs.Four.{flag, each4}
 
--- a relief fan is enabled where its supply fan is on: supply 1 for fans 1 and 2, supply 2 for fans 3 and 4 (rel_fan_mat)
+-- a relief fan is enabled where its supply fan is on: supply 1 for fans 1 and 2, supply 2 for fans 3 and 4 (relFanMat)
 abbrev pub enabled : List Bool → ℕ → Bool
 enabled supply zero = flag supply 0
 enabled supply (suc zero) = flag supply 0
@@ -13,7 +13,7 @@ enabled supply (suc (suc i)) = flag supply 1
 abbrev pub some_fan : List Bool → Bool
 some_fan fans = flag fans 0 || flag fans 1 || flag fans 2 || flag fans 3
 
--- of the fans that w picks, the one with the lowest weight (sta_vec): fan 3 before 1, 1 before 2, 2 before 4. Where w picks none there is none
+-- of the fans that w picks, the one with the lowest weight (staVec): fan 3 before 1, 1 before 2, 2 before 4. Where w picks none there is none
 unfoldable pub first_in_order : (ℕ → Bool) → List Bool
 first_in_order w = (w 0 && not (w 2)) ∷ (w 1 && not (w 2 || w 0)) ∷ w 2 ∷ (w 3 && not (w 2 || w 0 || w 1)) ∷ []
 

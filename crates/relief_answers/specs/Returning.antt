@@ -1,4 +1,4 @@
--- Rows whose mean is infinite at one of them and finite after it: the sum of pressure times gap is finite throughout. played/infinite_mean_returns.rows has the same.
+-- Rows whose mean is infinite at one of them and finite after it: the sum of pressure times gap is finite throughout. played/infinite-mean-returns.rows has the same.
 use Rattle.std.specs.Prelude.{ℕ, ◌*◌, ◌^◌, true, false, List, [], ◌∷◌, Float, pos}
 use Rattle.std.specs.Float.{binary64}
 use Rattle.std.specs.Float.Ieee.{round}

@@ -27,7 +27,7 @@ relief_left blocks signals =
       dow_tim = timer_output_left signals.down.dow_tim blocks.dow_tim.threshold;
     }
 
--- what a display shows of the timers: the answers of tim, up_tim and dow_tim, and what is left on each
+-- what a display shows of the timers: the answers of tim, upTim and dowTim, and what is left on each
 pub record Timers : Type 0 where
   pub answers : List TimerOutput
   pub left : ReliefLeft

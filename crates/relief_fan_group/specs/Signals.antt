@@ -45,7 +45,7 @@ pressure_control blocks row average =
       any_enabled = any_of (threshold_outputs blocks.gre_thr3 ena);
     }
 
--- stage zero: the dampers of the enabled fans (greThr1) are opened by the loop (gre_thr) while a supply fan is on, and shut after 5 minutes (tim) below (les_thr)
+-- stage zero: the dampers of the enabled fans (greThr1) are opened by the loop (greThr) while a supply fan is on, and shut after 5 minutes (tim) below (lesThr)
 unfoldable pub damper_enable : ReliefBlocks → ReliefRow → PressureControl → DamperEnable
 damper_enable blocks row control =
     let opening = threshold_output blocks.gre_thr control.controller && control.ena_rel_group in
@@ -58,7 +58,7 @@ damper_enable blocks row control =
       ena_dam = and_each (threshold_outputs blocks.gre_thr1 control.gai) (latch_output blocks.lat opening tim.passed);
     }
 
--- stage up. The next fan has the smallest order: while some fan is proven on, of the fans enabled and not proven on (les_thr1 marks the others); while all are off, of
+-- stage up. The next fan has the smallest order: while some fan is proven on, of the fans enabled and not proven on (lesThr1 marks the others); while all are off, of
 -- all four (swi3), so that where one supply fan is off both fans of that supply, whose order is 0, are next. or2: the fans that should then be on; each has 2 s (truDel)
 -- before its proof is asked. The up pulse, upTim's pass: 7 minutes of requests (greThr2) with no pulse on the row before (pre). The pulse sets the stage latch
 -- (lat2), and it is cleared where the delayed start of every fan equals its proof

@@ -1,4 +1,4 @@
--- The fan constants of ReliefFanGroup.mo (sta_vec, rel_fan_mat) as relief_fan_group.rs sets them: document 01, 'The fan constants form a table'.
+-- The fan constants of ReliefFanGroup.mo (staVec, relFanMat) as relief_fan_group.rs sets them: document 01, 'The fan constants form a table'.
 use Rattle.std.specs.Prelude.{ℕ, Bool, List, [], ◌∷◌, get_or, Float}
 use Rattle.std.specs.Float.{binary64}
 use Rattle.std.specs.Float.Ieee.{add, mul}
@@ -7,11 +7,11 @@ use Rattle.reals.specs.Four.{real, flag, each4}
 use Rattle.reals.specs.Switch.{bool_to_real}
 use Rattle.relief_fans.specs.Constants.{two, three, four}
 
--- sta_vec, the weight of each relief fan: while both supply fans are on, the fan with the lowest weight starts first
+-- staVec, the weight of each relief fan: while both supply fans are on, the fan with the lowest weight starts first
 abbrev pub sta_vec : List Float
 sta_vec = two ∷ three ∷ one ∷ four ∷ []
 
--- rel_fan_mat, a row for each relief fan and a column for each supply fan: fans 1 and 2 on supply 1, 3 and 4 on supply 2
+-- relFanMat, a row for each relief fan and a column for each supply fan: fans 1 and 2 on supply 1, 3 and 4 on supply 2
 abbrev pub rel_fan_mat : List (List Float)
 rel_fan_mat = (one ∷ plus_zero ∷ []) ∷ (one ∷ plus_zero ∷ []) ∷ (plus_zero ∷ one ∷ []) ∷ (plus_zero ∷ one ∷ []) ∷ []
 

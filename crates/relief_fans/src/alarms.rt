@@ -17,7 +17,7 @@ pub fn fits_byte(alarm: i64) -> bool
 }
 
 // A signed byte holds each of the four alarms.
-#[tactic(auto, using(reals::proofs::Four::start, reals::proofs::Four::more, reals::proofs::Four::done), unfolding(crate::specs::Alarms::alarms_fit))]
+#[tactic(auto, using(reals::proofs::Four::fill_loop), unfolding(crate::specs::Alarms::alarms_fit))]
 pub fn alarms_fit(alarm: [i64; 4]) -> bool
     ensures { result ≡ alarms_fit alarm }
 {
@@ -54,7 +54,7 @@ pub fn alarm_byte(alarm: i64) -> i8
 }
 
 // Each of the four alarms in a signed byte.
-#[tactic(auto, using(reals::proofs::Four::start, reals::proofs::Four::more, reals::proofs::Four::done), unfolding(crate::specs::Alarms::alarm_bytes))]
+#[tactic(auto, using(reals::proofs::Four::fill_loop), unfolding(crate::specs::Alarms::alarm_bytes))]
 pub fn alarm_bytes(alarm: [i64; 4]) -> [i8; 4]
     ensures { result ≡ alarm_bytes alarm }
 {

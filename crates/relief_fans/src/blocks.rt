@@ -6,7 +6,7 @@ ghost use Rattle.relief_fans.specs.Blocks.{threshold_outputs, threshold_updates,
 use logical::true_delay_on_init::TrueDelayOnInitState;
 use reals::threshold::ThresholdState;
 
-#[tactic(auto, using(reals::proofs::Four::start, reals::proofs::Four::more, reals::proofs::Four::done), unfolding(crate::specs::Blocks::threshold_outputs))]
+#[tactic(auto, using(reals::proofs::Four::fill_loop), unfolding(crate::specs::Blocks::threshold_outputs))]
 pub fn threshold_outputs(blocks: [ThresholdState; 4], u: [f64; 4]) -> [bool; 4]
     ensures { result ≡ threshold_outputs blocks u }
 {
@@ -18,7 +18,7 @@ pub fn threshold_outputs(blocks: [ThresholdState; 4], u: [f64; 4]) -> [bool; 4]
     out
 }
 
-#[tactic(auto, using(reals::proofs::Four::start, reals::proofs::Four::more, reals::proofs::Four::done), unfolding(crate::specs::Blocks::threshold_updates))]
+#[tactic(auto, using(reals::proofs::Four::fill_loop), unfolding(crate::specs::Blocks::threshold_updates))]
 pub fn threshold_updates(blocks: [ThresholdState; 4], u: [f64; 4]) -> [ThresholdState; 4]
     ensures { result ≡ threshold_updates blocks u }
 {
@@ -32,7 +32,7 @@ pub fn threshold_updates(blocks: [ThresholdState; 4], u: [f64; 4]) -> [Threshold
     out
 }
 
-#[tactic(auto, using(reals::proofs::Four::start, reals::proofs::Four::more, reals::proofs::Four::done), unfolding(crate::specs::Blocks::delay_outputs))]
+#[tactic(auto, using(reals::proofs::Four::fill_loop), unfolding(crate::specs::Blocks::delay_outputs))]
 pub fn delay_outputs(blocks: [TrueDelayOnInitState; 4], t: f64, u: [bool; 4]) -> [bool; 4]
     ensures { result ≡ delay_outputs blocks t u }
 {
@@ -44,7 +44,7 @@ pub fn delay_outputs(blocks: [TrueDelayOnInitState; 4], t: f64, u: [bool; 4]) ->
     out
 }
 
-#[tactic(auto, using(reals::proofs::Four::start, reals::proofs::Four::more, reals::proofs::Four::done), unfolding(crate::specs::Blocks::delay_updates))]
+#[tactic(auto, using(reals::proofs::Four::fill_loop), unfolding(crate::specs::Blocks::delay_updates))]
 pub fn delay_updates(
     blocks: [TrueDelayOnInitState; 4],
     t: f64,

@@ -12,7 +12,7 @@ pub fn alarm_off_guard(alarm: i64, proof: bool) -> bool
 }
 
 // The common speed for each fan that is commanded on, 0 for the others; where the common speed is a NaN, so are all four.
-#[tactic(auto, using(reals::proofs::Four::start, reals::proofs::Four::more, reals::proofs::Four::done), unfolding(crate::specs::Commands::fan_speed))]
+#[tactic(auto, using(reals::proofs::Four::fill_loop), unfolding(crate::specs::Commands::fan_speed))]
 pub fn fan_speed(speed_base: f64, log_swi: [bool; 4]) -> [f64; 4]
     ensures { result ≡ fan_speed speed_base log_swi }
 {
@@ -24,7 +24,7 @@ pub fn fan_speed(speed_base: f64, log_swi: [bool; 4]) -> [f64; 4]
 }
 
 // 1 for each damper that is commanded open and that the guard leaves so, 0 for the others.
-#[tactic(auto, using(reals::proofs::Four::start, reals::proofs::Four::more, reals::proofs::Four::done), unfolding(crate::specs::Commands::damper))]
+#[tactic(auto, using(reals::proofs::Four::fill_loop), unfolding(crate::specs::Commands::damper))]
 pub fn damper(log_swi2: [bool; 4], alarm: [i64; 4], proof: [bool; 4]) -> [f64; 4]
     ensures { result ≡ damper log_swi2 alarm proof }
 {

@@ -4,7 +4,7 @@ ghost use Rattle.relief_fans.specs.Flags.{not_each, or_each, and_each, xor_each,
 
 use logical::switch::logical_switch;
 
-#[tactic(auto, using(reals::proofs::Four::start, reals::proofs::Four::more, reals::proofs::Four::done), unfolding(crate::specs::Flags::not_each))]
+#[tactic(auto, using(reals::proofs::Four::fill_loop), unfolding(crate::specs::Flags::not_each))]
 pub fn not_each(a: [bool; 4]) -> [bool; 4]
     ensures { result ≡ not_each a }
 {
@@ -15,7 +15,7 @@ pub fn not_each(a: [bool; 4]) -> [bool; 4]
     out
 }
 
-#[tactic(auto, using(reals::proofs::Four::start, reals::proofs::Four::more, reals::proofs::Four::done), unfolding(crate::specs::Flags::or_each))]
+#[tactic(auto, using(reals::proofs::Four::fill_loop), unfolding(crate::specs::Flags::or_each))]
 pub fn or_each(a: [bool; 4], b: [bool; 4]) -> [bool; 4]
     ensures { result ≡ or_each a b }
 {
@@ -27,7 +27,7 @@ pub fn or_each(a: [bool; 4], b: [bool; 4]) -> [bool; 4]
 }
 
 // Each flag and one flag for all fans (CDL.Routing.BooleanScalarReplicator before the And).
-#[tactic(auto, using(reals::proofs::Four::start, reals::proofs::Four::more, reals::proofs::Four::done), unfolding(crate::specs::Flags::and_each))]
+#[tactic(auto, using(reals::proofs::Four::fill_loop), unfolding(crate::specs::Flags::and_each))]
 pub fn and_each(a: [bool; 4], u: bool) -> [bool; 4]
     ensures { result ≡ and_each a u }
 {
@@ -38,7 +38,7 @@ pub fn and_each(a: [bool; 4], u: bool) -> [bool; 4]
     out
 }
 
-#[tactic(auto, using(reals::proofs::Four::start, reals::proofs::Four::more, reals::proofs::Four::done), unfolding(crate::specs::Flags::xor_each))]
+#[tactic(auto, using(reals::proofs::Four::fill_loop), unfolding(crate::specs::Flags::xor_each))]
 pub fn xor_each(a: [bool; 4], b: [bool; 4]) -> [bool; 4]
     ensures { result ≡ xor_each a b }
 {
@@ -49,7 +49,7 @@ pub fn xor_each(a: [bool; 4], b: [bool; 4]) -> [bool; 4]
     out
 }
 
-#[tactic(auto, using(reals::proofs::Four::start, reals::proofs::Four::more, reals::proofs::Four::done), unfolding(crate::specs::Flags::equal_each))]
+#[tactic(auto, using(reals::proofs::Four::fill_loop), unfolding(crate::specs::Flags::equal_each))]
 pub fn equal_each(a: [bool; 4], b: [bool; 4]) -> [bool; 4]
     ensures { result ≡ equal_each a b }
 {
@@ -61,7 +61,7 @@ pub fn equal_each(a: [bool; 4], b: [bool; 4]) -> [bool; 4]
 }
 
 // The flags of a where u is true, those of b where it is false.
-#[tactic(auto, using(reals::proofs::Four::start, reals::proofs::Four::more, reals::proofs::Four::done), unfolding(crate::specs::Flags::switch_each))]
+#[tactic(auto, using(reals::proofs::Four::fill_loop), unfolding(crate::specs::Flags::switch_each))]
 pub fn switch_each(u: bool, a: [bool; 4], b: [bool; 4]) -> [bool; 4]
     ensures { result ≡ switch_each u a b }
 {
@@ -72,7 +72,7 @@ pub fn switch_each(u: bool, a: [bool; 4], b: [bool; 4]) -> [bool; 4]
     out
 }
 
-#[tactic(auto, using(reals::proofs::Four::begin, reals::proofs::Four::step, reals::proofs::Four::ends), unfolding(crate::specs::Flags::all_of))]
+#[tactic(auto, using(reals::proofs::Four::step_loop), unfolding(crate::specs::Flags::all_of))]
 pub fn all_of(a: [bool; 4]) -> bool
     ensures { result ≡ all_of a }
 {
@@ -83,7 +83,7 @@ pub fn all_of(a: [bool; 4]) -> bool
     y
 }
 
-#[tactic(auto, using(reals::proofs::Four::begin, reals::proofs::Four::step, reals::proofs::Four::ends), unfolding(crate::specs::Flags::any_of))]
+#[tactic(auto, using(reals::proofs::Four::step_loop), unfolding(crate::specs::Flags::any_of))]
 pub fn any_of(a: [bool; 4]) -> bool
     ensures { result ≡ any_of a }
 {

@@ -9,7 +9,7 @@ use reals::switch::{bool_to_real, switch};
 pub const BEHIND: f64 = 5.0;
 
 // The orders of the enabled fans that are not proven on; 0, or minus the order, for the others.
-#[tactic(auto, using(reals::proofs::Four::start, reals::proofs::Four::more, reals::proofs::Four::done), unfolding(crate::specs::Orders::pro1))]
+#[tactic(auto, using(reals::proofs::Four::fill_loop), unfolding(crate::specs::Orders::pro1))]
 pub fn pro1(gai: [f64; 4], ena_rel: [f64; 4], proof: [bool; 4]) -> [f64; 4]
     ensures { result ≡ pro1 gai ena_rel proof }
 {
@@ -22,7 +22,7 @@ pub fn pro1(gai: [f64; 4], ena_rel: [f64; 4], proof: [bool; 4]) -> [f64; 4]
 }
 
 // The orders of the enabled fans that are proven on; 0 for the others.
-#[tactic(auto, using(reals::proofs::Four::start, reals::proofs::Four::more, reals::proofs::Four::done), unfolding(crate::specs::Orders::pro2))]
+#[tactic(auto, using(reals::proofs::Four::fill_loop), unfolding(crate::specs::Orders::pro2))]
 pub fn pro2(gai: [f64; 4], proof: [bool; 4]) -> [f64; 4]
     ensures { result ≡ pro2 gai proof }
 {
@@ -34,7 +34,7 @@ pub fn pro2(gai: [f64; 4], proof: [bool; 4]) -> [f64; 4]
 }
 
 // The orders with those marked put behind the others: `swi` for the next fan to start, `swi1` for the next to stop.
-#[tactic(auto, using(reals::proofs::Four::start, reals::proofs::Four::more, reals::proofs::Four::done), unfolding(crate::specs::Orders::swi))]
+#[tactic(auto, using(reals::proofs::Four::fill_loop), unfolding(crate::specs::Orders::swi))]
 pub fn swi(marked: [bool; 4], order: [f64; 4]) -> [f64; 4]
     ensures { result ≡ swi marked order }
 {
@@ -46,7 +46,7 @@ pub fn swi(marked: [bool; 4], order: [f64; 4]) -> [f64; 4]
 }
 
 // The orders as they are while all fans are off; else with some put behind.
-#[tactic(auto, using(reals::proofs::Four::start, reals::proofs::Four::more, reals::proofs::Four::done), unfolding(crate::specs::Orders::swi3))]
+#[tactic(auto, using(reals::proofs::Four::fill_loop), unfolding(crate::specs::Orders::swi3))]
 pub fn swi3(all_fans_off: bool, pro1: [f64; 4], swi: [f64; 4]) -> [f64; 4]
     ensures { result ≡ swi3 all_fans_off pro1 swi }
 {
@@ -58,7 +58,7 @@ pub fn swi3(all_fans_off: bool, pro1: [f64; 4], swi: [f64; 4]) -> [f64; 4]
 }
 
 // How far each fan's order is from the next one's: 0 for the next fan.
-#[tactic(auto, using(reals::proofs::Four::start, reals::proofs::Four::more, reals::proofs::Four::done), unfolding(crate::specs::Orders::distance))]
+#[tactic(auto, using(reals::proofs::Four::fill_loop), unfolding(crate::specs::Orders::distance))]
 pub fn distance(gai: [f64; 4], next_order: f64) -> [f64; 4]
     ensures { result ≡ distance gai next_order }
 {

@@ -11,7 +11,7 @@ pub const STA_VEC: [u8; 4] = [2, 3, 1, 4];
 pub const REL_FAN_SUPPLY: [u8; 4] = [0, 0, 1, 1];
 
 // 1 for each relief fan whose supply fan is on, 0 for the others.
-#[tactic(auto, using(reals::proofs::Four::start, reals::proofs::Four::more, reals::proofs::Four::done), unfolding(crate::specs::Table::ena_rel))]
+#[tactic(auto, using(reals::proofs::Four::fill_loop), unfolding(crate::specs::Table::ena_rel))]
 pub fn ena_rel(supply: [bool; 2]) -> [f64; 4]
     ensures { result ≡ ena_rel supply }
 {

@@ -1,3 +1,4 @@
+// Written by tools/words from the library woldgrater.
 // Freeze protection, a call a row, in memory that the caller holds.
 ghost use Rattle.std.specs.Prelude.{◌≡◌};
 ghost use Rattle.freeze_protection.specs.Step.{freeze_fresh, freeze_row};

@@ -1,3 +1,4 @@
+// Written by tools/words from the library woldgrater_service.
 // The economizer: what a row's commands would be worked from, for a display or a logger, and the line of a row.
 ghost use Rattle.std.specs.Prelude.{◌≡◌};
 ghost use Rattle.row_writer.specs.Writing.{write_row, ReadsBack};

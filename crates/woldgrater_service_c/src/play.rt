@@ -1,3 +1,4 @@
+// Written by tools/words from the library woldgrater_service.
 // A whole row file in one call.
 ghost use Rattle.woldgrater_service.specs.Play.{PlayedOrRefused};
 

@@ -1,4 +1,4 @@
--- `in_eight`: what makes it true.
+-- `in_eight`: byte after byte, what was found stays found.
 use Rattle.std.proofs.Common.{◌≡◌, ◌≤◌, drop, arith, sym}
 use borrow.Author.Tests.{le-ltb}
 use Rattle.line_stream.specs.Lines.{before_newline}

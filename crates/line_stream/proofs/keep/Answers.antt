@@ -1,4 +1,4 @@
--- `keep`: what makes it true.
+-- `keep`: byte after byte, those that are copied follow those that were kept.
 use Rattle.std.proofs.Common.{ℕ, List, ◌≡◌, ◌<◌, ◌+◌, length, take, arith, add-one, ap, ◌∙◌}
 use lib.Seq.{paste, paste-zero, paste-suc}
 use Rattle.line_stream.proofs.Keeping.{kept_is}

@@ -1,4 +1,4 @@
--- `skip`: what makes it true.
+-- `skip`: thirty-two bytes that hold no newline are passed, and no more.
 use Rattle.std.proofs.Common.{◌≤◌, ◌+◌, drop, length, arith, sym, ◌∙◌}
 use borrow.Author.Tests.{ltb-false}
 use Rattle.line_stream.specs.Lines.{before_newline}

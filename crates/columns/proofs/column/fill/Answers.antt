@@ -1,4 +1,4 @@
--- `fill`: what makes it true.
+-- `fill`: space after space, the last first.
 use Rattle.std.proofs.Common.{◌≡◌, arith, sym, ◌∙◌}
 use Rattle.columns.proofs.Writing.{fill_to, fill_step, fill_over}
 use Rattle.columns.proofs.column.fill.Goals as goal

@@ -1,4 +1,4 @@
--- `write_column`: what makes it true.
+-- `write_column`: the number's column, and the place after it.
 use Rattle.std.proofs.Common.{refl}
 use Rattle.columns.proofs.Inverse.{length_column}
 use Rattle.columns.proofs.column.write_column.Goals as goal

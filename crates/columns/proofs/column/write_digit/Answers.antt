@@ -1,4 +1,4 @@
--- `write_digit`: what makes it true.
+-- `write_digit`: the digit in the last place, its mark before it, and spaces before that.
 use Rattle.std.proofs.Common.{arith, ◌∙◌}
 use Rattle.columns.proofs.Writing.{put_end, put_over, column_over}
 use Rattle.columns.proofs.column.write_digit.Goals as goal

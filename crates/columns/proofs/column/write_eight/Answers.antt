@@ -1,4 +1,4 @@
--- `write_eight`: what makes it true.
+-- `write_eight`: digit after digit, the last first.
 use Rattle.std.proofs.Common.{ℕ, List, [], ◌≡◌, ◌+◌, ◌-◌, suc, arith, sym, ap, ◌∙◌}
 use lib.Seq.{paste-zero}
 use Rattle.columns.specs.Column.{over}

@@ -1,4 +1,4 @@
--- `write_number`: what makes it true.
+-- `write_number`: a number of 2 to 16 digits is its mark and its text; the writers of the others say the column themselves.
 use Rattle.columns.proofs.Writing.{column_over}
 use Rattle.columns.proofs.column.write_number.Goals as goal
 

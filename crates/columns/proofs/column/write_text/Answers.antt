@@ -1,4 +1,4 @@
--- `write_text`: what makes it true.
+-- `write_text`: digit after digit, the last first; then the mark, then spaces.
 use Rattle.std.proofs.Common.{◌≤◌, ◌+◌, length, arith, sym, ◌∙◌}
 use lib.ListN.{length-set}
 use Rattle.columns.proofs.Writing.{put_more, put_end, put_over, room_more}

@@ -1,4 +1,4 @@
--- `is_blank`: what makes it true.
+-- `is_blank`: place after place, one that is no space makes it false for good.
 use Rattle.std.proofs.Common.{◌≡◌, ◌+◌, arith, sym, add-one}
 use Rattle.columns.specs.Scan.{is_space}
 use Rattle.columns.proofs.Digits.{every_none, every_more}

@@ -1,4 +1,4 @@
--- `is_long`: what makes it true.
+-- `is_long`: place after place, one that is no digit makes it false for good.
 use Rattle.std.proofs.Common.{◌≡◌, arith, sym, add-one}
 use Rattle.columns.specs.Scan.{is_digit}
 use Rattle.columns.proofs.Digits.{every_none, every_more}

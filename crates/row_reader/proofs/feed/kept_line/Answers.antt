@@ -1,4 +1,4 @@
--- `kept_line`: what makes it true.
+-- `kept_line`: by whether it is the first line of the input.
 use Rattle.row_reader.proofs.Phases.{kept_answered}
 use Rattle.row_reader.proofs.feed.kept_line.Goals as goal
 
