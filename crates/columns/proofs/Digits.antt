@@ -9,8 +9,8 @@ use native.Mathlib.Nat.{pow-suc, mul_assoc}
 use lib.ListN.{length, get_or}
 use borrow.Author.Tests.{leb-true, eqb-true, eqb-false}
 use lib.Dec.{leb, eqb}
-use Rattle.columns.specs.declared.scan.Scanned.TheVariants as scanned
-use Rattle.columns.specs.Scan.{is_space, is_digit, every, number_at, limit, scan}
+use Rattle.std.specs.Prelude.{Some, None}
+use Rattle.columns.specs.Scan.{is_space, is_digit, every, number_at, limit, number, scan}
 use Rattle.columns.proofs.Scanning.{Blank, Number, scan_to}
 use Rattle.columns.proofs.Inverse.{both}
 use Rattle.columns.proofs.Lanes.{word_of, Joined, joined}
@@ -189,7 +189,7 @@ module _ (c : List ℕ) (long : length c ≡ 21) where
       space_more c long n (spaces_seen n b.0) (eqb-true _ _ f)
 
   -- then one digit
-  pub digit_seen : every is_space c 0 20 ≡ true → 48 ≤ get_or c 20 0 → get_or c 20 0 ≤ 57 → scanned.Number false (get_or c 20 0 - 48) ≡ scan c
+  pub digit_seen : every is_space c 0 20 ≡ true → 48 ≤ get_or c 20 0 → get_or c 20 0 ≤ 57 → Some (number false (get_or c 20 0 - 48)) ≡ scan c
   digit_seen e a b =
       let s : get_or c 20 0 ≡ 32 → ⊥ = λ f. omega arith in
       let m : get_or c 20 0 ≡ 45 → ⊥ = λ f. omega arith in
@@ -216,7 +216,7 @@ module _ (c : List ℕ) (long : length c ≡ 21) where
       rw (o, v) (next_digit c long (at + suc n) false (number_at c at (suc n)) i.0 y (omega arith) g.0 g.1 (omega arith), omega (arith, i.1))
 
   -- 19 digits after two spaces
-  pub long_seen : get_or c 0 0 ≡ 32 → get_or c 1 0 ≡ 32 → (get_or c 2 0 ≡ 48 → ⊥) → every is_digit c 2 19 ≡ true → scanned.Number false (number_at c 2 19) ≡ scan c
+  pub long_seen : get_or c 0 0 ≡ 32 → get_or c 1 0 ≡ 32 → (get_or c 2 0 ≡ 48 → ⊥) → every is_digit c 2 19 ≡ true → Some (number false (number_at c 2 19)) ≡ scan c
   long_seen a b z d =
       let s : scan_to c 2 ≡ Blank = space_more c long 1 (space_more c long 0 refl a) b in
       let f : number_at c 2 19 < limit = omega (arith, number_fits c 2 19 d) in
@@ -238,13 +238,13 @@ module _ (c : List ℕ) (long : length c ≡ 21) where
     no_zero : get_or c 1 0 ≡ 48 → ⊥
     no_zero e = omega (arith, b)
 
-    pub longer_seen : number_at c 2 19 ≤ 8446744073709551615 → scanned.Number false (10000000000000000000 + number_at c 2 19) ≡ scan c
+    pub longer_seen : number_at c 2 19 ≤ 8446744073709551615 → Some (number false (10000000000000000000 + number_at c 2 19)) ≡ scan c
     longer_seen h =
         let f : number_at c 1 20 < limit = omega (arith, number_is) in
-        ap (λ (x : ℕ). scanned.Number false x) (sym number_is)
+        ap (λ (x : ℕ). Some (number false x)) (sym number_is)
         ∙ whole c long 21 false (number_at c 1 20) (digits_seen 1 19 spaced no_zero (omega arith) all_digits f).0 refl
 
-    pub too_long : 8446744073709551615 < number_at c 2 19 → scanned.Malformed ≡ scan c
+    pub too_long : 8446744073709551615 < number_at c 2 19 → None ≡ scan c
     too_long h =
         let e = (every_both is_digit c 1 19 all_digits).0 in
         let f : number_at c 1 19 < limit = omega (arith, number_fits c 1 19 e) in

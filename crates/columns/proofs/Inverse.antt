@@ -9,10 +9,10 @@ use lib.ListN.{length, take, replicate}
 use lib.Seq.{take_all}
 use lib.Dec.{ltb, eqb}
 use borrow.Author.Tests.{ltb-true, ltb-false, eqb-true, lt-ltb, le-leb, eq-eqb, ne_eqb}
-use Rattle.columns.specs.declared.scan.Scanned.{Scanned}
-use Rattle.columns.specs.declared.scan.Scanned.TheVariants as scanned
+use Rattle.columns.specs.declared.scan.Number as declared
 use Rattle.columns.specs.Column.{mark, pad, text, column}
-use Rattle.columns.specs.Scan.{same, digit, decimal_after, decimal, has_minus, limit, scan}
+use Rattle.std.specs.Prelude.{Option, Some, None}
+use Rattle.columns.specs.Scan.{same, digit, decimal_after, decimal, has_minus, limit, number, scan}
 use Rattle.columns.proofs.Scanning.{Seen, Blank, Minus, Number, Bad, scan_to, Means, means, scan_text, length_text, by_test}
 
 -- ---- lists of bytes that are the same
@@ -127,35 +127,36 @@ module _ (neg : Bool) (n : ℕ) (h : n < limit) where
   unfolding column
   column_minus = minus_text neg 20 n (omega arith) fits
 
-  pub scan_column : scan (column neg n) ≡ scanned.Number neg n
+  pub scan_column : scan (column neg n) ≡ Some (number neg n)
   unfolding scan
   scan_column = simp (column_minus, column_decimal, same_refl (column neg n), lt-ltb _ _ h)
 
-pub scan_was : (c : List ℕ) (neg : Bool) (n : ℕ) → scan c ≡ scanned.Number neg n → (c ≡ column neg n) × (n < limit)
+pub scan_was : (c : List ℕ) (neg : Bool) (n : ℕ) → scan c ≡ Some (number neg n) → (c ≡ column neg n) × (n < limit)
 unfolding scan
 scan_was c neg n =
-    by_test (λ s. s ≡ scanned.Number neg n → (c ≡ column neg n) × (n < limit)) (same c (column (has_minus c) (decimal c)) && ltb (decimal c) limit) _ _
+    by_test (λ s. s ≡ Some (number neg n) → (c ≡ column neg n) × (n < limit)) (same c (column (has_minus c) (decimal c)) && ltb (decimal c) limit) _ _
     (λ t e.
     let b = both (same c (column (has_minus c) (decimal c))) (ltb (decimal c) limit) t in
-    let m : has_minus c ≡ neg = cc in
-    let d : decimal c ≡ n = cc in
+    let r : number (has_minus c) (decimal c) ≡ number neg n = cc in
+    let m : has_minus c ≡ neg = ap (λ (x : declared.Number). x.negative) r in
+    let d : decimal c ≡ n = ap (λ (x : declared.Number). x.value) r in
     (same_eq c _ b.0 ∙ ap₂ (λ (x : Bool) (k : ℕ). column x k) m d, rw d at (ltb-true (decimal c) limit b.1)))
     (λ _ e. let z : ◌≡◌ {A = ℕ} 0 1 = cc in absurd (omega arith))
 
 -- what a scan of a whole column gives
-abbrev pub finish : Seen → Scanned
-finish (Number neg v) = scanned.Number neg v
-finish Blank = scanned.Malformed
-finish Minus = scanned.Malformed
-finish Bad = scanned.Malformed
+abbrev pub finish : Seen → Option declared.Number
+finish (Number neg v) = Some (number neg v)
+finish Blank = None
+finish Minus = None
+finish Bad = None
 
 -- no number is read where the bytes are no number's column
-pub no_number : (c : List ℕ) → ((neg : Bool) (n : ℕ) → scan c ≡ scanned.Number neg n → ⊥) → scanned.Malformed ≡ scan c
+pub no_number : (c : List ℕ) → ((neg : Bool) (n : ℕ) → scan c ≡ Some (number neg n) → ⊥) → None ≡ scan c
 no_number c h = go (scan c) refl
   where
-    go : (r : Scanned) → scan c ≡ r → scanned.Malformed ≡ r
-    go scanned.Malformed e = refl
-    go (scanned.Number neg n) e = absurd (h neg n e)
+    go : (r : Option declared.Number) → scan c ≡ r → None ≡ r
+    go None e = refl
+    go (Some n) e = absurd (h n.negative n.value e)
 
 module _ (c : List ℕ) (long : length c ≡ 21) where
   is_column : (neg : Bool) (v : ℕ) → scan_to c 21 ≡ Number neg v → (c ≡ column neg v) × (v < limit)
@@ -164,7 +165,7 @@ module _ (c : List ℕ) (long : length c ≡ 21) where
       let m = subst (λ (s : Seen). Means 21 s (take 21 c)) e (means c 21 (omega arith)) in
       (sym (take_all 21 c (omega arith)) ∙ m.0, m.1)
 
-  none : (s : Seen) → scan_to c 21 ≡ s → ((neg : Bool) (n : ℕ) → s ≡ Number neg n → ⊥) → scanned.Malformed ≡ scan c
+  none : (s : Seen) → scan_to c 21 ≡ s → ((neg : Bool) (n : ℕ) → s ≡ Number neg n → ⊥) → None ≡ scan c
   none s e h =
       no_number c (λ neg n f.
       let w = scan_was c neg n f in
@@ -186,5 +187,5 @@ unfolding column
 length_column neg n = length_text (mark neg) 21 n
 
 -- bytes of another length are no column
-pub scan_length : (c : List ℕ) → (length c ≡ 21 → ⊥) → scanned.Malformed ≡ scan c
+pub scan_length : (c : List ℕ) → (length c ≡ 21 → ⊥) → None ≡ scan c
 scan_length c h = no_number c (λ neg n e. h (ap length (scan_was c neg n e).0 ∙ length_column neg n))

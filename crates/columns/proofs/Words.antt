@@ -10,8 +10,8 @@ use lib.IntN.{pos, negsuc}
 use lib.Ieee.{nan, binary64, to_bits}
 use borrow.Author.Tests.{ltb-true, leb-true, leb-false, eqb-true, lt-ltb, le-ltb, le-leb, lt-leb, eq-eqb}
 use Rattle.columns.specs.Column.{column}
-use Rattle.columns.specs.Scan.{same, decimal, has_minus, limit, scan}
-use Rattle.columns.specs.declared.scan.Scanned.TheVariants as scanned
+use Rattle.std.specs.Prelude.{Some, None}
+use Rattle.columns.specs.Scan.{same, decimal, has_minus, limit, number, scan}
 use Rattle.columns.specs.Word.{half, last_word, word_signed}
 use Rattle.columns.specs.Forms.{float, yes_no, signed, is_word, is_negative, magnitude, word_column, word_in, no_word, a_word, read_word, largest}
 use Rattle.columns.proofs.Scanning.{by_test}
@@ -132,15 +132,15 @@ unfolding largest
 largest_float form e = ap (λ (f : ℕ). cond (eqb f yes_no) 1 (cond (eqb f signed) 9223372036854775807 last_word)) e
 
 -- by what is scanned
-pub scanned_word : (form : ℕ) (c : List ℕ) (minus b : Bool) (n : ℕ) → scan c ≡ scanned.Number minus n → minus ≡ b → read_word form (column b n) ≡ read_word form c
-scanned_word form c minus b n e m = ap (λ (x : List ℕ). read_word form x) (sym (scan_was c b n (e ∙ ap (λ (x : Bool). scanned.Number x n) m)).0)
+pub scanned_word : (form : ℕ) (c : List ℕ) (minus b : Bool) (n : ℕ) → scan c ≡ Some (number minus n) → minus ≡ b → read_word form (column b n) ≡ read_word form c
+scanned_word form c minus b n e m = ap (λ (x : List ℕ). read_word form x) (sym (scan_was c b n (e ∙ ap (λ (x : Bool). Some (number x n)) m)).0)
 
-pub no_scanned_word : (form : ℕ) (c : List ℕ) → scan c ≡ scanned.Malformed → no_word ≡ read_word form c
+pub no_scanned_word : (form : ℕ) (c : List ℕ) → scan c ≡ None → no_word ≡ read_word form c
 unfolding word_column
 no_scanned_word form c e =
     no_word_for form c (λ w is d.
     let m : magnitude form w < limit = magnitude_small form w (word_small form w is) in
-    let f : scan c ≡ scanned.Number (is_negative form w) (magnitude form w) = ap scan d ∙ scan_column (is_negative form w) (magnitude form w) m in
+    let f : scan c ≡ Some (number (is_negative form w) (magnitude form w)) = ap scan d ∙ scan_column (is_negative form w) (magnitude form w) m in
     let z : ◌≡◌ {A = ℕ} 0 1 = cc in
     omega arith)
 

@@ -1,8 +1,7 @@
 -- The number that stands in a column: the one whose column is just these bytes.
-use Rattle.std.specs.Prelude.{ℕ, zero, suc, ◌+◌, ◌-◌, ◌*◌, List, [], ◌∷◌, Bool, true, false, cond, ◌&&◌, ◌||◌, get_or, ltb, leb, eqb}
+use Rattle.std.specs.Prelude.{ℕ, zero, suc, ◌+◌, ◌-◌, ◌*◌, List, [], ◌∷◌, Bool, true, false, cond, ◌&&◌, ◌||◌, Option, Some, None, get_or, ltb, leb, eqb}
 use Rattle.columns.specs.Column.{column}
-use Rattle.columns.specs.declared.scan.Scanned.{Scanned}
-use Rattle.columns.specs.declared.scan.Scanned.TheVariants.{Number, Malformed}
+use Rattle.columns.specs.declared.scan.Number.{Number}
 
 -- two lists of bytes are the same
 abbrev pub same : List ℕ → List ℕ → Bool
@@ -54,9 +53,13 @@ number_at c at (suc n) = number_at c at n * 10 + (get_or c (at + n) 0 - 48)
 
 -- ---- the whole column
 
--- the number n, after a minus or not, exactly when the bytes are its column and 64 bits hold it; else the column is badly formed
-unfoldable pub scan : List ℕ → Scanned
+-- a number, after a minus or not
+abbrev pub number : Bool → ℕ → Number
+number negative value = record { negative = negative; value = value }
+
+-- the number exactly when the bytes are its column and 64 bits hold it; none where the column is badly formed
+unfoldable pub scan : List ℕ → Option Number
 scan bytes =
     cond (same bytes (column (has_minus bytes) (decimal bytes)) && ltb (decimal bytes) limit)
-    (Number (has_minus bytes) (decimal bytes))
-    Malformed
+    (Some (number (has_minus bytes) (decimal bytes)))
+    None

@@ -6,7 +6,7 @@ ghost use Rattle.columns.specs.Line.{column_of};
 ghost use Rattle.columns.specs.Forms.{no_word, a_word, read_word, largest, word_column, line_of, forms_of, words_in, Read, WordsFit};
 
 use crate::column::write_column;
-use crate::scan::{Scanned, scan};
+use crate::scan::scan;
 
 // A table of at most 12 columns: their number, and their forms.
 #[derive(Clone, Copy)]
@@ -100,12 +100,12 @@ fn read_word(column: &[u8], form: u8) -> Word
     ensures { result ≡ read_word form column.now }
 {
     match scan(column) {
-        Scanned::Malformed => no_word(),
-        Scanned::Number(minus, n) => {
-            if minus {
-                return minus_word(form, n);
+        None => no_word(),
+        Some(number) => {
+            if number.negative {
+                return minus_word(form, number.value);
             }
-            plain_word(form, n)
+            plain_word(form, number.value)
         }
     }
 }

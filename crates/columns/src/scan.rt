@@ -2,24 +2,24 @@
 ghost use Rattle.std.specs.Prelude.{◌≡◌, true, ◌+◌, ◌*◌, ◌≤◌, ◌<◌, length};
 ghost use Rattle.columns.specs.Scan.{every, is_space, is_digit, number_at, scan};
 
-// What stands in a column: a number, with a minus before it or none, or no number.
+// The number that stands in a column: whether a minus is before it, and its digits' value.
 #[derive(Clone, Copy)]
-pub enum Scanned {
-    Number(bool, u64),
-    Malformed,
+pub struct Number {
+    pub negative: bool,
+    pub value: u64,
 }
 
 // The number of any column, byte by byte: spaces, at most one minus, and digits with no leading zero up to its end, of a number below 2^64.
-fn scan_bytes(column: &[u8]) -> Scanned
+fn scan_bytes(column: &[u8]) -> Option<Number>
     ensures { result ≡ scan column.now }
 {
     if column.len() != 21 {
-        return Scanned::Malformed;
+        return None;
     }
     let mut i: usize = 0;
     loop {
         if i == 21 {
-            return Scanned::Malformed;
+            return None;
         }
         if column[i] != 32 {
             break;
@@ -32,43 +32,46 @@ fn scan_bytes(column: &[u8]) -> Scanned
         i += 1;
     }
     if i == 21 {
-        return Scanned::Malformed;
+        return None;
     }
     let first = column[i];
     if first < 48 {
-        return Scanned::Malformed;
+        return None;
     }
     if first > 57 {
-        return Scanned::Malformed;
+        return None;
     }
     i += 1;
     if first == 48 {
         if i == 21 {
-            return Scanned::Number(negative, 0);
+            return Some(Number { negative, value: 0 });
         }
-        return Scanned::Malformed;
+        return None;
     }
     let mut number = (first - 48) as u64;
     while i < 21 {
         let byte = column[i];
         if byte < 48 {
-            return Scanned::Malformed;
+            return None;
         }
         if byte > 57 {
-            return Scanned::Malformed;
+            return None;
         }
         let digit = (byte - 48) as u64;
         if number > 1844674407370955161 {
-            return Scanned::Malformed;
+            return None;
         }
         let tens = number * 10;
         if tens > 18446744073709551615 - digit {
-            return Scanned::Malformed;
+            return None;
         }
         number = tens + digit;
         i += 1;
     }
-    Scanned::Number(negative, number)
+    Some(Number {
+        negative,
+        value: number,
+    })
 }
 
 // Whether there are spaces in the first 20 places.
@@ -162,7 +165,7 @@ fn nineteen(column: &[u8]) -> u64
 
 // The number of a column. A digit after 20 spaces, and 19 or 20 digits, which are what rows mostly hold, are not read byte by byte. Of 20 digits the first
 // is a 1, and the others are at most those of 2^64 - 1.
-pub fn scan(column: &[u8]) -> Scanned
+pub fn scan(column: &[u8]) -> Option<Number>
     ensures { result ≡ scan column.now }
 {
     if column.len() == 21 {
@@ -171,7 +174,10 @@ pub fn scan(column: &[u8]) -> Scanned
                 let last = column[20];
                 if last >= 48 {
                     if last <= 57 {
-                        return Scanned::Number(false, wide(last - 48));
+                        return Some(Number {
+                            negative: false,
+                            value: wide(last - 48),
+                        });
                     }
                 }
             }
@@ -182,14 +188,20 @@ pub fn scan(column: &[u8]) -> Scanned
                 let leading = column[1];
                 if leading == 32 {
                     if column[2] != 48 {
-                        return Scanned::Number(false, low);
+                        return Some(Number {
+                            negative: false,
+                            value: low,
+                        });
                     }
                 }
                 if leading == 49 {
                     if low > 8446744073709551615 {
-                        return Scanned::Malformed;
+                        return None;
                     }
-                    return Scanned::Number(false, 10000000000000000000 + low);
+                    return Some(Number {
+                        negative: false,
+                        value: 10000000000000000000 + low,
+                    });
                 }
             }
         }
