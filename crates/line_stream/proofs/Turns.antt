@@ -2,81 +2,44 @@
 use Prim.Native.Nat.{ℕ, zero, suc, ◌+◌, ◌-◌, ◌*◌, ◌≤◌, ◌<◌}
 use mathlib.Core.Path.{◌≡◌, refl, sym, ap, ◌∙◌}
 use mathlib.Core.List.{List, [], ◌∷◌, ◌++◌, append_assoc, append-nil}
-use mathlib.Core.Bool.{Bool, true, false, cond, ◌||◌}
+use mathlib.Core.Bool.{Bool, true, false, cond}
 use native.Mathlib.Omega.{arith}
-use native.Mathlib.Numerals.{unary_clauses}
-use lib.ListN.{length, get_or, take, drop, length-take, length-drop, drop_of_length-le, take-append-drop}
-use lib.Seq.{drop-cons, drop-drop}
+use lib.ListN.{length, get_or, take, drop, length-take, length-drop, take-append-drop}
+use lib.Seq.{drop-drop}
 use lib.Dec.{ltb, eqb}
+use Rattle.std.specs.Prelude.{Option, Some, None}
+use Rattle.std.specs.Option.{unwrap_or}
+use Rattle.memchr.specs.Find.{IsFirstByte, is_byte}
 use borrow.Author.Tests.{ltb-true, ltb-false, lt-ltb, le-ltb, eqb-true, eqb-false, eq-eqb, ne_eqb}
 use Rattle.columns.specs.Column.{Wrote, over}
 use Rattle.columns.proofs.Writing.{length_over, wrote_both, wrote_text}
 use Rattle.line_stream.specs.Lines.{Answer, Fed, feed, before_newline, cut, Answered, onward, fed_from, LinesAs}
 use Rattle.line_stream.proofs.Cutting.{after, feed_empty, feed_newline, feed_byte}
 
--- ---- the first newline from a place on
+-- ---- the first newline
 
-module _ (c : List ℕ) (i : ℕ) where
-  pub newline_here : i < length c → get_or c i 0 ≡ 10 → before_newline (drop i c) ≡ 0
-  unfolding before_newline
-  newline_here h e = ap before_newline (drop-cons c i 0 h) ∙ simp (eq-eqb _ _ e)
+before_newline_lem : (b : ℕ) (l : List ℕ) → b ≡ 10 → before_newline (b ∷ l) ≡ 0
+unfolding before_newline
+before_newline_lem b l e = simp (eq-eqb _ _ e)
 
-  pub newline_later : i < length c → (get_or c i 0 ≡ 10 → ⊥) → before_newline (drop i c) ≡ suc (before_newline (drop (suc i) c))
-  unfolding before_newline
-  newline_later h e = ap before_newline (drop-cons c i 0 h) ∙ simp (ne_eqb _ _ e)
+before_byte : (b : ℕ) (l : List ℕ) → (b ≡ 10 → ⊥) → before_newline (b ∷ l) ≡ suc (before_newline l)
+unfolding before_newline
+before_byte b l e = simp (ne_eqb _ _ e)
 
-  pub newline_nowhere : length c ≤ i → before_newline (drop i c) ≡ 0
-  unfolding before_newline
-  newline_nowhere h = ap before_newline (drop_of_length-le c h)
+-- n bytes that are none, and then one or the end
+newline_after : (l : List ℕ) (n : ℕ) → n ≤ length l → ((k : ℕ) → k < n → get_or l k 0 ≡ 10 → ⊥) → (n < length l → get_or l n 0 ≡ 10) → before_newline l ≡ n
+unfolding before_newline
+newline_after [] n h none here = omega arith
+newline_after (b ∷ l) zero h none here = before_newline_lem b l (here (omega arith))
+newline_after (b ∷ l) (suc n) h none here =
+    before_byte b l (none 0 (omega arith))
+    ∙ ap suc (newline_after l n (omega arith) (λ k i. none (suc k) (omega arith)) (λ i. here (omega arith)))
 
--- past bytes that hold none
-pub newline_past : (c : List ℕ) (i k : ℕ) → i + k ≤ length c → k ≤ before_newline (drop i c) → before_newline (drop i c) ≡ k + before_newline (drop (i + k) c)
-newline_past c i zero h n = simp unary_clauses (omega arith)
-newline_past c i (suc k) h n =
-    let e = newline_past c i k (omega arith) (omega arith) in
-    let f : get_or c (i + k) 0 ≡ 10 → ⊥ = λ b. omega (arith, e, newline_here c (i + k) (omega arith) b) in
-    let g : i + suc k ≡ suc (i + k) = omega arith in
-    rw g (omega (arith, e, newline_later c (i + k) (omega arith) f))
-
--- past k bytes where it is not among them
-pub newline_on : (c : List ℕ) (i k : ℕ) → i + k ≤ length c → (found : Bool) → found ≡ ltb (before_newline (drop i c)) k → (r : ℕ) → r ≡ cond found i (i + k)
-    → (r ≤ i + k) × (r + before_newline (drop r c) ≡ i + before_newline (drop i c))
-newline_on c i k h true f r e = (omega arith, rw e)
-newline_on c i k h false f r e =
-    let p = newline_past c i k h (ltb-false _ _ (sym f)) in
-    (omega arith, rw e (omega arith))
-
--- among k bytes, or the n after them
-pub newline_either : (c : List ℕ) (i k n : ℕ) → i + (k + n) ≤ length c
-    → ltb (before_newline (drop i c)) k || ltb (before_newline (drop (i + k) c)) n ≡ ltb (before_newline (drop i c)) (k + n)
-newline_either c i k n h = by (ltb (before_newline (drop i c)) k) refl (ltb (before_newline (drop (i + k) c)) n) refl
-  where
-    by : (s : Bool) → ltb (before_newline (drop i c)) k ≡ s → (t : Bool) → ltb (before_newline (drop (i + k) c)) n ≡ t
-        → s || t ≡ ltb (before_newline (drop i c)) (k + n)
-    by true e t f =
-        let l : before_newline (drop i c) < k + n = omega (arith, ltb-true (before_newline (drop i c)) k e) in
-        sym (lt-ltb _ _ l)
-    by false e true f =
-        let p = newline_past c i k (omega arith) (ltb-false _ _ e) in
-        let l : before_newline (drop i c) < k + n = omega (arith, p, ltb-true (before_newline (drop (i + k) c)) n f) in
-        sym (lt-ltb _ _ l)
-    by false e false f =
-        let p = newline_past c i k (omega arith) (ltb-false _ _ e) in
-        let l : k + n ≤ before_newline (drop i c) = omega (arith, p, ltb-false (before_newline (drop (i + k) c)) n f) in
-        sym (le-ltb _ _ l)
-
--- or one byte more
-pub newline_among : (c : List ℕ) (i k : ℕ) → i + k < length c
-    → ltb (before_newline (drop i c)) k || eqb (get_or c (i + k) 0) 10 ≡ ltb (before_newline (drop i c)) (k + 1)
-newline_among c i k h = ap (λ (t : Bool). ltb (before_newline (drop i c)) k || t) (by (eqb (get_or c (i + k) 0) 10) refl) ∙ newline_either c i k 1 (omega arith)
-  where
-    by : (t : Bool) → eqb (get_or c (i + k) 0) 10 ≡ t → t ≡ ltb (before_newline (drop (i + k) c)) 1
-    by true f =
-        let l : before_newline (drop (i + k) c) < 1 = omega (arith, newline_here c (i + k) h (eqb-true _ _ f)) in
-        sym (lt-ltb _ _ l)
-    by false f =
-        let l : 1 ≤ before_newline (drop (i + k) c) = omega (arith, newline_later c (i + k) h (eqb-false _ _ f)) in
-        sym (le-ltb _ _ l)
+-- what a search of it finds
+pub newline_found : (l : List ℕ) (found : Option ℕ) → IsFirstByte (is_byte 10) l found → unwrap_or found (length l) ≡ before_newline l
+newline_found l None nowhere = sym (newline_after l (length l) (omega arith) (λ k h e. nowhere k (omega arith) h (eq-eqb _ _ e)) (λ h. absurd (omega arith)))
+newline_found l (Some n) (first, here) =
+    sym (newline_after l n (omega (arith, first.high)) (λ k h e. first.before k (omega arith) h (eq-eqb _ _ e)) (λ _. eqb-true _ _ here))
 
 pub newline_within : (l : List ℕ) → before_newline l ≤ length l
 unfolding before_newline
@@ -86,14 +49,6 @@ newline_within (b ∷ l) = by (eqb b 10) (newline_within l)
     by : (t : Bool) → before_newline l ≤ length l → cond t 0 (suc (before_newline l)) ≤ suc (length l)
     by true h = omega arith
     by false h = omega arith
-
-before_newline_lem : (b : ℕ) (l : List ℕ) → b ≡ 10 → before_newline (b ∷ l) ≡ 0
-unfolding before_newline
-before_newline_lem b l e = simp (eq-eqb _ _ e)
-
-before_byte : (b : ℕ) (l : List ℕ) → (b ≡ 10 → ⊥) → before_newline (b ∷ l) ≡ suc (before_newline l)
-unfolding before_newline
-before_byte b l e = simp (ne_eqb _ _ e)
 
 -- ---- bytes up to the first newline
 

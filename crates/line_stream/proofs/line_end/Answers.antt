@@ -1,7 +1,13 @@
--- `line_end`: past a byte that is no newline the first newline from i on is the first from the next place on.
-use Rattle.std.proofs.Common.{rules, arith, add-one}
-use Rattle.line_stream.proofs.Turns.{newline_later}
+-- `line_end`: where the search finds the first newline, and the chunk's end where it finds none.
+use Rattle.std.proofs.Common.{ℕ, ◌≡◌, ◌+◌, ◌-◌, length, take, drop, arith, ap, ◌∙◌}
+use lib.ListN.{length-drop}
+use lib.Seq.{take_all}
+use Rattle.line_stream.specs.Lines.{before_newline}
+use Rattle.line_stream.proofs.Turns.{newline_found}
 use Rattle.line_stream.proofs.line_end.Goals as goal
 
-pub loop-i-preserved : goal.loop-i-preserved
-loop-i-preserved c = (omega arith, rw add-one (omega (arith, c.loop-i.invariant.1, newline_later c.args.chunk.now c.loop-i.i c.loop-i-test.true (search rules))))
+pub returns : goal.returns
+returns c =
+    let rest = drop c.args.from c.args.chunk.now in
+    let all : take (length c.args.chunk.now - c.args.from) rest ≡ rest = take_all _ rest (omega (arith, length-drop c.args.from c.args.chunk.now)) in
+    ap (λ (n : ℕ). c.args.from + n) (c.unwrap_or.ensures ∙ newline_found _ _ c.memchr.ensures ∙ ap before_newline all)
