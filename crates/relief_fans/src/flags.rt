@@ -3,93 +3,62 @@ ghost use Rattle.std.specs.Prelude.{◌≡◌};
 ghost use Rattle.relief_fans.specs.Flags.{not_each, or_each, and_each, xor_each, equal_each, switch_each, all_of, any_of};
 
 use logical::switch::logical_switch;
+use std::array;
 
-#[tactic(auto, using(reals::proofs::Four::fill_loop), unfolding(crate::specs::Flags::not_each))]
+#[tactic(auto, unfolding(crate::specs::Flags::not_each))]
 pub fn not_each(a: [bool; 4]) -> [bool; 4]
     ensures { result ≡ not_each a }
 {
-    let mut out = [false; 4];
-    for i in 0..4 {
-        out[i] = !a[i];
-    }
-    out
+    a.map(|on| !on)
 }
 
-#[tactic(auto, using(reals::proofs::Four::fill_loop), unfolding(crate::specs::Flags::or_each))]
+#[tactic(auto, unfolding(crate::specs::Flags::or_each))]
 pub fn or_each(a: [bool; 4], b: [bool; 4]) -> [bool; 4]
     ensures { result ≡ or_each a b }
 {
-    let mut out = [false; 4];
-    for i in 0..4 {
-        out[i] = a[i] | b[i];
-    }
-    out
+    array::from_fn(|i| a[i] | b[i])
 }
 
 // Each flag and one flag for all fans (CDL.Routing.BooleanScalarReplicator before the And).
-#[tactic(auto, using(reals::proofs::Four::fill_loop), unfolding(crate::specs::Flags::and_each))]
+#[tactic(auto, unfolding(crate::specs::Flags::and_each))]
 pub fn and_each(a: [bool; 4], u: bool) -> [bool; 4]
     ensures { result ≡ and_each a u }
 {
-    let mut out = [false; 4];
-    for i in 0..4 {
-        out[i] = a[i] & u;
-    }
-    out
+    a.map(|on| on & u)
 }
 
-#[tactic(auto, using(reals::proofs::Four::fill_loop), unfolding(crate::specs::Flags::xor_each))]
+#[tactic(auto, unfolding(crate::specs::Flags::xor_each))]
 pub fn xor_each(a: [bool; 4], b: [bool; 4]) -> [bool; 4]
     ensures { result ≡ xor_each a b }
 {
-    let mut out = [false; 4];
-    for i in 0..4 {
-        out[i] = a[i] != b[i];
-    }
-    out
+    array::from_fn(|i| a[i] != b[i])
 }
 
-#[tactic(auto, using(reals::proofs::Four::fill_loop), unfolding(crate::specs::Flags::equal_each))]
+#[tactic(auto, unfolding(crate::specs::Flags::equal_each))]
 pub fn equal_each(a: [bool; 4], b: [bool; 4]) -> [bool; 4]
     ensures { result ≡ equal_each a b }
 {
-    let mut out = [false; 4];
-    for i in 0..4 {
-        out[i] = a[i] == b[i];
-    }
-    out
+    array::from_fn(|i| a[i] == b[i])
 }
 
 // The flags of a where u is true, those of b where it is false.
-#[tactic(auto, using(reals::proofs::Four::fill_loop), unfolding(crate::specs::Flags::switch_each))]
+#[tactic(auto, unfolding(crate::specs::Flags::switch_each))]
 pub fn switch_each(u: bool, a: [bool; 4], b: [bool; 4]) -> [bool; 4]
     ensures { result ≡ switch_each u a b }
 {
-    let mut out = [false; 4];
-    for i in 0..4 {
-        out[i] = logical_switch(u, a[i], b[i]);
-    }
-    out
+    array::from_fn(|i| logical_switch(u, a[i], b[i]))
 }
 
-#[tactic(auto, using(reals::proofs::Four::step_loop), unfolding(crate::specs::Flags::all_of))]
+#[tactic(auto, unfolding(crate::specs::Flags::all_of))]
 pub fn all_of(a: [bool; 4]) -> bool
     ensures { result ≡ all_of a }
 {
-    let mut y = true;
-    for i in 0..4 {
-        y = y & a[i];
-    }
-    y
+    a.iter().all(|&on| on)
 }
 
-#[tactic(auto, using(reals::proofs::Four::step_loop), unfolding(crate::specs::Flags::any_of))]
+#[tactic(auto, unfolding(crate::specs::Flags::any_of))]
 pub fn any_of(a: [bool; 4]) -> bool
     ensures { result ≡ any_of a }
 {
-    let mut y = false;
-    for i in 0..4 {
-        y = y | a[i];
-    }
-    y
+    a.iter().any(|&on| on)
 }

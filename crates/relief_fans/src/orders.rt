@@ -4,67 +4,50 @@ ghost use Rattle.relief_fans.specs.Orders.{pro1, pro2, swi, swi3, distance};
 
 use reals::sign::abs;
 use reals::switch::{bool_to_real, switch};
+use std::array;
 
 // What is added to the order of a fan that may not be chosen, so that every fan that may be chosen comes before it.
 pub const BEHIND: f64 = 5.0;
 
 // The orders of the enabled fans that are not proven on; 0, or minus the order, for the others.
-#[tactic(auto, using(reals::proofs::Four::fill_loop), unfolding(crate::specs::Orders::pro1))]
+#[tactic(auto, unfolding(crate::specs::Orders::pro1))]
 pub fn pro1(gai: [f64; 4], ena_rel: [f64; 4], proof: [bool; 4]) -> [f64; 4]
     ensures { result ≡ pro1 gai ena_rel proof }
 {
-    let mut out = [0.0; 4];
-    for i in 0..4 {
+    array::from_fn(|i| {
         let sub2 = ena_rel[i] - bool_to_real(proof[i]);
-        out[i] = gai[i] * sub2;
-    }
-    out
+        gai[i] * sub2
+    })
 }
 
 // The orders of the enabled fans that are proven on; 0 for the others.
-#[tactic(auto, using(reals::proofs::Four::fill_loop), unfolding(crate::specs::Orders::pro2))]
+#[tactic(auto, unfolding(crate::specs::Orders::pro2))]
 pub fn pro2(gai: [f64; 4], proof: [bool; 4]) -> [f64; 4]
     ensures { result ≡ pro2 gai proof }
 {
-    let mut out = [0.0; 4];
-    for i in 0..4 {
-        out[i] = gai[i] * bool_to_real(proof[i]);
-    }
-    out
+    array::from_fn(|i| gai[i] * bool_to_real(proof[i]))
 }
 
 // The orders with those marked put behind the others: `swi` for the next fan to start, `swi1` for the next to stop.
-#[tactic(auto, using(reals::proofs::Four::fill_loop), unfolding(crate::specs::Orders::swi))]
+#[tactic(auto, unfolding(crate::specs::Orders::swi))]
 pub fn swi(marked: [bool; 4], order: [f64; 4]) -> [f64; 4]
     ensures { result ≡ swi marked order }
 {
-    let mut out = [0.0; 4];
-    for i in 0..4 {
-        out[i] = switch(marked[i], order[i] + BEHIND, order[i]);
-    }
-    out
+    array::from_fn(|i| switch(marked[i], order[i] + BEHIND, order[i]))
 }
 
 // The orders as they are while all fans are off; else with some put behind.
-#[tactic(auto, using(reals::proofs::Four::fill_loop), unfolding(crate::specs::Orders::swi3))]
+#[tactic(auto, unfolding(crate::specs::Orders::swi3))]
 pub fn swi3(all_fans_off: bool, pro1: [f64; 4], swi: [f64; 4]) -> [f64; 4]
     ensures { result ≡ swi3 all_fans_off pro1 swi }
 {
-    let mut out = [0.0; 4];
-    for i in 0..4 {
-        out[i] = switch(all_fans_off, pro1[i], swi[i]);
-    }
-    out
+    array::from_fn(|i| switch(all_fans_off, pro1[i], swi[i]))
 }
 
 // How far each fan's order is from the next one's: 0 for the next fan.
-#[tactic(auto, using(reals::proofs::Four::fill_loop), unfolding(crate::specs::Orders::distance))]
+#[tactic(auto, unfolding(crate::specs::Orders::distance))]
 pub fn distance(gai: [f64; 4], next_order: f64) -> [f64; 4]
     ensures { result ≡ distance gai next_order }
 {
-    let mut out = [0.0; 4];
-    for i in 0..4 {
-        out[i] = abs(gai[i] - next_order);
-    }
-    out
+    gai.map(|order| abs(order - next_order))
 }

@@ -11,18 +11,15 @@ pub const STA_VEC: [u8; 4] = [2, 3, 1, 4];
 pub const REL_FAN_SUPPLY: [u8; 4] = [0, 0, 1, 1];
 
 // 1 for each relief fan whose supply fan is on, 0 for the others.
-#[tactic(auto, using(reals::proofs::Four::fill_loop), unfolding(crate::specs::Table::ena_rel))]
+#[tactic(auto, unfolding(crate::specs::Table::ena_rel, reals::specs::Switch::bool_to_real))]
 pub fn ena_rel(supply: [bool; 2]) -> [f64; 4]
     ensures { result ≡ ena_rel supply }
 {
-    let mut out = [0.0; 4];
-    for i in 0..4 {
-        let on = REL_FAN_SUPPLY[i];
+    REL_FAN_SUPPLY.map(|on| {
         let first = bool_to_real(on == 0) * bool_to_real(supply[0]);
         let second = bool_to_real(on == 1) * bool_to_real(supply[1]);
-        out[i] = first + second;
-    }
-    out
+        first + second
+    })
 }
 
 // The order of each enabled relief fan, its weight; 0 for the others.
@@ -31,14 +28,15 @@ pub fn gai(ena_rel: [f64; 4]) -> [f64; 4]
 {
     let mut out = ena_rel;
     let weights = STA_VEC;
-    // What the fans still to come weigh, 0 after the last. With a fixed number of turns the compiler would keep each weight as a float.
+    // What the fans still to come weigh, 0 after the last. With a fixed number of turns, as `std::array::from_fn` has, the compiler keeps each weight as
+    // a float, and the table of bytes is not in the firmware: tools/test-fan-table refuses that.
     let mut left = weights[0] + weights[1] + weights[2] + weights[3];
     let mut i = 0;
     while left != 0 {
         let weight = weights[i];
-        out[i] = out[i] * (weight as f64);
-        left = left - weight;
-        i = i + 1;
+        out[i] *= f64::from(weight);
+        left -= weight;
+        i += 1;
     }
     out
 }

@@ -36,9 +36,6 @@ offset_bounds-out-i c = let l = (turn c.loop-left.invariant c.loop-left-test.tru
 pub bounds-out-i : goal.bounds-out-i
 bounds-out-i c = (turn c.loop-left.invariant c.loop-left-test.true).fan
 
-pub offset_bounds-out-i-in-loop-left : goal.offset_bounds-out-i-in-loop-left
-offset_bounds-out-i-in-loop-left c = let l = (turn c.loop-left.invariant c.loop-left-test.true).fan in omega arith
-
 pub bounds-out-i-in-loop-left : goal.bounds-out-i-in-loop-left
 bounds-out-i-in-loop-left c = (turn c.loop-left.invariant c.loop-left-test.true).fan
 
@@ -55,7 +52,7 @@ pub loop-left-preserved : goal.loop-left-preserved
 loop-left-preserved c =
     let t = turn c.loop-left.invariant c.loop-left-test.true in
     let w = c.loop-left.invariant in
-    record { fill = more w.fill t.fan (rw (yet nan w.fill, weight_is _ t.fan)); rest = t.rest }
+    record { fill = more w.fill t.fan (rw (c.from.ensures, yet nan w.fill, weight_is _ t.fan)); rest = t.rest }
 
 pub returns : goal.returns
 unfolding gai

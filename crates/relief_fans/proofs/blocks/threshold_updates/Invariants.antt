@@ -1,7 +1,0 @@
--- `threshold_updates`: after i turns the first i entries are those of the definition.
-use Rattle.reals.proofs.Four.{Fill}
-use Rattle.relief_fans.specs.Blocks.{threshold_update_at}
-use Rattle.relief_fans.proofs.blocks.threshold_updates.Given as goal
-
-abbrev pub invariant-loop-i : goal.invariant-loop-i
-invariant-loop-i l = Fill (threshold_update_at l.blocks l.u) l.initial.out l.i l.out

@@ -1,7 +1,0 @@
--- `not_each`: after i turns the first i entries are those of the definition.
-use Rattle.reals.proofs.Four.{Fill}
-use Rattle.relief_fans.specs.Flags.{not_at}
-use Rattle.relief_fans.proofs.flags.not_each.Given as goal
-
-abbrev pub invariant-loop-i : goal.invariant-loop-i
-invariant-loop-i l = Fill (not_at l.a) l.initial.out l.i l.out
