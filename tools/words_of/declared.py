@@ -4,6 +4,7 @@ import os
 import re
 
 DECLARED = re.compile(r'(?m)^((?://.*\n)*)(?:#\[(?:repr|derive)\(.*\)\]\n)*pub (struct|enum) (\w+) \{\n((?:    .*\n)*)\}')
+SEEN = 'Seen'
 PLAIN = {'f64': '0.0', 'u64': '0', 'usize': '0', 'i64': '0', 'i8': '0'}
 
 
@@ -13,6 +14,9 @@ class Type:
 
     def __init__(self, name, crate, module, comment, fields=None, variants=None):
         self.name, self.crate, self.module, self.comment, self.fields, self.variants = name, crate, module, comment, fields, variants
+        # as src and as definitions name it; the name of what each variant holds
+        self.typed = self.spec = name
+        self.holds = {variant: snake(variant) for variant, _ in variants or []}
         self.base = name.removesuffix('State') or name
         self.words = self.base + 'Words'
         self.file = snake(self.base)
@@ -41,9 +45,15 @@ def element(kind):
     return found[0] if found else kind
 
 
+def seen():
+    found = Type(SEEN, 'reals', 'seen', '', variants=[('None', None), ('Some', 'f64')])
+    found.typed, found.spec, found.holds = 'Option<f64>', 'Option Float', {'None': 'none', 'Some': 'at'}
+    return found
+
+
 def declarations(root, crates):
-    """Every public struct and enum of these crates, by its name."""
-    found = {}
+    """Every public struct and enum of these crates, by its name; and the library's `Option<f64>` under the name of what it is here, a time seen or not."""
+    found = {SEEN: seen()}
     for crate in crates:
         folder = os.path.join(root, 'crates', crate, 'src')
         for name in sorted(os.listdir(folder)):
@@ -56,7 +66,7 @@ def declarations(root, crates):
                 lines = [line.strip().removesuffix(',') for line in re.sub(r'//.*', '', body).splitlines() if line.strip()]
                 comment = ' '.join(line.removeprefix('//').strip() for line in comment.splitlines())
                 if kind == 'struct':
-                    fields = [tuple(line.removeprefix('pub ').split(': ', 1)) for line in lines]
+                    fields = [tuple(line.removeprefix('pub ').replace('Option<f64>', SEEN).split(': ', 1)) for line in lines]
                     found[title] = Type(title, crate, module, comment, fields=fields)
                 else:
                     variants = [re.fullmatch(r'(\w+)(?:\((\w+)\))?', line) for line in lines]

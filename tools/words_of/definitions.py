@@ -6,7 +6,7 @@ from . import declared
 from .names import MADE, Names, applied, order, word_fields
 
 # what definitions take of the library, in the order in which it is named
-PLAIN = ['eqb', 'cond', 'pos', 'replicate', 'map']
+PLAIN = ['eqb', 'cond', 'pos', 'replicate', 'map', 'Float', 'Option', 'None', 'Some']
 
 
 class Definitions(Names):
@@ -25,22 +25,25 @@ class Definitions(Names):
                 found.add(f'use {self.page(other)}.{{{", ".join(names)}}}')
             if declared.array(part) and one not in declared.PLAIN and asked - {'zero'}:
                 plain.add('map')
-        if asked & {'of', 'value'}:
+        if self.library(kind):
+            plain |= {'Float', 'Option', 'None', 'Some'}
+        elif asked & {'of', 'value'}:
             found.add(f'use {self.declared(kind)}.{{{kind.name}}}')
         found.add(f'use {self.words_declared(kind)}.{{{kind.words}}}')
         if kind.variants:
-            found.add(f'use {self.declared(kind)}.TheVariants.{{{", ".join(name for name, _ in kind.variants)}}}')
+            if not self.library(kind):
+                found.add(f'use {self.declared(kind)}.TheVariants.{{{", ".join(name for name, _ in kind.variants)}}}')
             if 'value' in asked:
                 plain |= {'eqb', 'cond'}
         if 'of' in asked:
-            body += ['', f'-- `{kind.name}` as words', f'unfoldable pub {kind.to} : {kind.name} → {kind.words}']
+            body += ['', f'-- `{kind.typed}` as words', f'unfoldable pub {kind.to} : {kind.spec} → {kind.words}']
             if kind.variants:
                 body += self.of_enum_spec(kind)
             else:
                 body += [f'{kind.to} s = record {{'] + [f'  {name} = {self.word_of(kind, name, part)};' for name, part in word_fields(kind)] + ['}']
         if 'value' in asked:
-            body += ['', f'-- the `{kind.name}` that words stand for' + (f'; a number that no variant has is read as `{kind.variants[-1][0]}`' if kind.variants else ''),
-                     f'unfoldable pub {kind.back} : {kind.words} → {kind.name}']
+            body += ['', f'-- the `{kind.typed}` that words stand for' + (f'; a number that no variant has is read as `{kind.variants[-1][0]}`' if kind.variants else ''),
+                     f'unfoldable pub {kind.back} : {kind.words} → {kind.spec}']
             if kind.variants:
                 body += [f'{kind.back} w = {self.value_enum_spec(kind)}']
             else:
@@ -54,7 +57,7 @@ class Definitions(Names):
             found.add('use Rattle.reals.specs.Constants.{plus_zero}')
         if plain:
             found.add('use Rattle.std.specs.Prelude.{' + ', '.join(word for word in PLAIN if word in plain) + '}')
-        return f'-- `{kind.name}` of {kind.crate} as words. {MADE}\n' + '\n'.join(sorted(found, key=order)) + '\n' + text + '\n'
+        return f'-- `{kind.typed}` {self.of_crate(kind)}as words. {MADE}\n' + '\n'.join(sorted(found, key=order)) + '\n' + text + '\n'
 
     def word_of(self, kind, name, part):
         """A field of the words of s: that of s made over, or 0 where it only fills a word."""
@@ -67,7 +70,7 @@ class Definitions(Names):
             for other, its in kind.variants:
                 if its:
                     text = self.spec_call(its, 'of', 'x') if other == name else self.zero_spec(its)
-                    fields.append(f'{declared.snake(other)} = {text}')
+                    fields.append(f'{kind.holds[other]} = {text}')
             lines.append(f'{kind.to} {f"({name} x)" if part else name} = record {{ {"; ".join(fields)} }}')
         return lines
 
@@ -77,7 +80,7 @@ class Definitions(Names):
             name, part = kind.variants[at]
             made = name
             if part:
-                made = '(' + applied(name, self.spec_call(part, 'value', f'w.{declared.snake(name)}')) + ')'
+                made = '(' + applied(name, self.spec_call(part, 'value', f'w.{kind.holds[name]}')) + ')'
             if not text:
                 text = made[1:-1] if made.startswith('(') and len(kind.variants) == 1 else made
             else:

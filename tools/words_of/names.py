@@ -10,7 +10,7 @@ MADE = 'Written by tools/words.'
 
 def held(kind):
     """The fields of an enum's words: the number of the variant, and what each variant holds."""
-    return [('variant', 'u64')] + [(declared.snake(name), part) for name, part in kind.variants if part]
+    return [('variant', 'u64')] + [(kind.holds[name], part) for name, part in kind.variants if part]
 
 
 def word_fields(kind):
@@ -68,6 +68,17 @@ class Names:
     def origin(self, kind):
         """The type itself as src names it."""
         return f'{kind.crate}::{kind.module}::{kind.name}' if kind.module else f'{kind.crate}::{kind.name}'
+
+    def library(self, kind):
+        """Whether a type is the library's."""
+        return kind.typed != kind.name
+
+    def of_crate(self, kind):
+        return '' if self.library(kind) else f'of {kind.crate} '
+
+    def variant(self, kind, name):
+        """A variant as src names it."""
+        return name if self.library(kind) else f'{kind.name}::{name}'
 
     def declared(self, kind):
         module = f'.{kind.module}' if kind.module else ''

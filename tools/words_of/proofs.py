@@ -10,12 +10,13 @@ class Proofs(Names):
         uses, body = {'use mathlib.Core.Path.{◌≡◌, refl}' if any(kind.variants for kind in both) else 'use mathlib.Core.Path.{◌≡◌}'}, []
         laws = set()
         for kind in both:
-            uses.add(f'use {self.declared(kind)}.{{{kind.name}}}')
+            uses.add('use Rattle.std.specs.Prelude.{Float, Option, None, Some}' if self.library(kind) else f'use {self.declared(kind)}.{{{kind.name}}}')
             uses.add(f'use {self.page(kind)}.{{{kind.to}, {kind.back}}}')
             unfolded = f'{kind.back} {kind.to}'
-            body += ['', f'pub {kind.law} : (s : {kind.name}) → {kind.back} ({kind.to} s) ≡ s', f'unfolding {unfolded}']
-            if kind.variants:
+            body += ['', f'pub {kind.law} : (s : {kind.spec}) → {kind.back} ({kind.to} s) ≡ s', f'unfolding {unfolded}']
+            if kind.variants and not self.library(kind):
                 uses.add(f'use {self.declared(kind)}.TheVariants.{{{", ".join(name for name, _ in kind.variants)}}}')
+            if kind.variants:
                 for name, part in kind.variants:
                     if part and part not in declared.PLAIN:
                         body.append(f'{kind.law} ({name} x) = λ i. {name} ({self.law_of(part, "x")})')

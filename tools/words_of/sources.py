@@ -16,7 +16,7 @@ def grouped(paths):
 class Sources(Names):
     def uses(self, kind, asked):
         """The `use` lines of a type's source."""
-        found = {self.origin(kind)}
+        found = set() if self.library(kind) else {self.origin(kind)}
         for part in [part for _, part in kind.fields or kind.variants if part]:
             one = declared.element(part)
             if one in declared.PLAIN:
@@ -30,7 +30,7 @@ class Sources(Names):
 
     def source(self, kind, asked, mine):
         names = [name for what, name in (('of', kind.to), ('value', kind.back), ('zero', kind.zero)) if what in asked]
-        lines = [f'// `{kind.name}` of {kind.crate} as words. {MADE}', 'ghost use Rattle.std.specs.Prelude.{' + ('◌≡◌, map' if mine else '◌≡◌') + '};']
+        lines = [f'// `{kind.typed}` {self.of_crate(kind)}as words. {MADE}', 'ghost use Rattle.std.specs.Prelude.{' + ('◌≡◌, map' if mine else '◌≡◌') + '};']
         lines += [f'ghost use Rattle.{self.crate}.specs.{kind.page}.{{{", ".join(names)}}};', '']
         lines += grouped(self.uses(kind, asked))
         lines += ['', '#[repr(C)]', '#[derive(Clone, Copy)]', f'pub struct {kind.words} {{']
@@ -72,12 +72,12 @@ class Sources(Names):
         return lines
 
     def of_struct(self, kind):
-        lines = [self.tactic(kind, kind.to), f'    pub fn of(value: {kind.name}) -> Self', f'        ensures {{ result ≡ {kind.to} value }}', '    {']
+        lines = [self.tactic(kind, kind.to), f'    pub fn of(value: {kind.typed}) -> Self', f'        ensures {{ result ≡ {kind.to} value }}', '    {']
         lines += self.copies('value', kind.fields)
         return '\n'.join(lines + [f'        {kind.words} {{', *self.fields_made('value', kind, 'of'), '        }', '    }'])
 
     def value_struct(self, kind):
-        lines = [self.tactic(kind, kind.back), f'    pub fn value(self) -> {kind.name}', f'        ensures {{ result ≡ {kind.back} self }}', '    {']
+        lines = [self.tactic(kind, kind.back), f'    pub fn value(self) -> {kind.typed}', f'        ensures {{ result ≡ {kind.back} self }}', '    {']
         lines += self.copies('self', kind.fields)
         return '\n'.join(lines + [f'        {kind.name} {{', *self.fields_made('self', kind, 'value'), '        }', '    }'])
 
@@ -90,32 +90,32 @@ class Sources(Names):
         return '\n'.join(lines + ['        }', '    }'])
 
     def of_enum(self, kind):
-        lines = ['    // The number of the variant, and what it holds; 0 for what the others would.', self.tactic(kind, kind.to), f'    pub fn of(value: {kind.name}) -> Self',
+        lines = ['    // The number of the variant, and what it holds; 0 for what the others would.', self.tactic(kind, kind.to), f'    pub fn of(value: {kind.typed}) -> Self',
                  f'        ensures {{ result ≡ {kind.to} value }}', '    {', '        match value {']
         for at, (name, part) in enumerate(kind.variants):
-            name_held = declared.snake(name)
+            name_held = kind.holds[name]
             fields = [f'variant: {at}']
             for other, its in kind.variants:
                 if its and other == name:
                     call = self.call(its, 'of')
                     fields.append(f'{name_held}: {call.format(name_held)}' if call else name_held)
                 elif its:
-                    fields.append(f'{declared.snake(other)}: {self.zero_of(its)}')
-            pattern = f'{kind.name}::{name}({name_held})' if part else f'{kind.name}::{name}'
+                    fields.append(f'{kind.holds[other]}: {self.zero_of(its)}')
+            pattern = self.variant(kind, name) + (f'({name_held})' if part else '')
             lines.append(f'            {pattern} => {kind.words} {{ {", ".join(fields)} }},')
         return '\n'.join(lines + ['        }', '    }'])
 
     def value_enum(self, kind):
         last = kind.variants[-1][0]
-        lines = [f'    // A number that no variant has is read as `{last}`.', self.tactic(kind, kind.back), f'    pub fn value(self) -> {kind.name}',
+        lines = [f'    // A number that no variant has is read as `{last}`.', self.tactic(kind, kind.back), f'    pub fn value(self) -> {kind.typed}',
                  f'        ensures {{ result ≡ {kind.back} self }}', '    {']
         lines.append('        let variant = self.variant;')
         lines += self.copies('self', held(kind))
         for at, (name, part) in enumerate(kind.variants):
-            text = f'{kind.name}::{name}'
+            text = self.variant(kind, name)
             if part:
                 call = self.call(part, 'value')
-                text += f'({call.format(declared.snake(name))})' if call else f'(self.{declared.snake(name)})'
+                text += f'({call.format(kind.holds[name])})' if call else f'(self.{kind.holds[name]})'
             if name == last:
                 lines.append(f'        {text}')
             else:

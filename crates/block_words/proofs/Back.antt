@@ -1,4 +1,5 @@
 -- The words of a value stand for the value. Written by tools/words.
+use Rattle.std.specs.Prelude.{Float, Option, None, Some}
 use mathlib.Core.Path.{◌≡◌, refl}
 use Rattle.logical.specs.declared.edge.EdgeState.{EdgeState}
 use Rattle.logical.specs.declared.held_timer.HeldTimerState.{HeldTimerState}
@@ -12,8 +13,6 @@ use Rattle.moving_average.specs.declared.lent.Integrator.{Integrator}
 use Rattle.reals.specs.declared.hysteresis.HysteresisState.{HysteresisState}
 use Rattle.reals.specs.declared.pid.PidState.{PidState}
 use Rattle.reals.specs.declared.pid_with_reset.PidWithResetState.{PidWithResetState}
-use Rattle.reals.specs.declared.seen.Seen.TheVariants.{Never, At}
-use Rattle.reals.specs.declared.seen.Seen.{Seen}
 use Rattle.reals.specs.declared.threshold.ThresholdMode.TheVariants.{Greater, Less}
 use Rattle.reals.specs.declared.threshold.ThresholdMode.{ThresholdMode}
 use Rattle.reals.specs.declared.threshold.ThresholdState.{ThresholdState}
@@ -34,10 +33,10 @@ use Rattle.block_words.specs.TrueDelay.{true_delay_words, true_delay_of}
 use Rattle.block_words.specs.TrueDelayOnInit.{true_delay_on_init_words, true_delay_on_init_of}
 use Rattle.block_words.specs.TrueFalseHold.{true_false_hold_words, true_false_hold_of}
 
-pub seen_back : (s : Seen) → seen_of (seen_words s) ≡ s
+pub seen_back : (s : Option Float) → seen_of (seen_words s) ≡ s
 unfolding seen_of seen_words
-seen_back Never = refl
-seen_back (At x) = refl
+seen_back None = refl
+seen_back (Some x) = refl
 
 pub threshold_mode_back : (s : ThresholdMode) → threshold_mode_of (threshold_mode_words s) ≡ s
 unfolding threshold_mode_of threshold_mode_words

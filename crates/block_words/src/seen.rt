@@ -1,8 +1,6 @@
-// `Seen` of reals as words. Written by tools/words.
+// `Option<f64>` as words. Written by tools/words.
 ghost use Rattle.std.specs.Prelude.{◌≡◌};
 ghost use Rattle.block_words.specs.Seen.{seen_words, seen_of};
-
-use reals::seen::Seen;
 
 #[repr(C)]
 #[derive(Clone, Copy)]
@@ -15,28 +13,28 @@ impl SeenWords {
     // The number of the variant, and what it holds; 0 for what the others would.
     #[tactic(auto, unfolding(crate::specs::Seen::seen_words))]
     #[inline(always)]
-    pub fn of(value: Seen) -> Self
+    pub fn of(value: Option<f64>) -> Self
         ensures { result ≡ seen_words value }
     {
         match value {
-            Seen::Never => SeenWords {
+            None => SeenWords {
                 variant: 0,
                 at: 0.0,
             },
-            Seen::At(at) => SeenWords { variant: 1, at },
+            Some(at) => SeenWords { variant: 1, at },
         }
     }
 
-    // A number that no variant has is read as `At`.
+    // A number that no variant has is read as `Some`.
     #[tactic(auto, unfolding(crate::specs::Seen::seen_of))]
     #[inline(always)]
-    pub fn value(self) -> Seen
+    pub fn value(self) -> Option<f64>
         ensures { result ≡ seen_of self }
     {
         let variant = self.variant;
         if variant == 0 {
-            return Seen::Never;
+            return None;
         }
-        Seen::At(self.at)
+        Some(self.at)
     }
 }

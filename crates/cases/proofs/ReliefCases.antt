@@ -1,4 +1,5 @@
 -- Cases R1, R3 and R4 of a relief row. Assumes nothing.
+use Rattle.std.specs.Prelude.{Ok, Err}
 use Prim.Native.Nat.{ℕ, zero, suc, ◌<◌}
 use native.Mathlib.Omega.{arith}
 use mathlib.Core.Path.{◌≡◌, refl, sym, ap, ◌∙◌}
@@ -11,14 +12,13 @@ use lib.Ieee.{Float, round, of_bits}
 use lib.Ieee.Scale.{finite}
 use Rattle.reals.specs.Constants.{plus_zero}
 use Rattle.reals.specs.Four.{real}
-use Rattle.reals.specs.Seen.{seen_never, seen_above, seen_elapsed}
+use Rattle.reals.specs.Seen.{seen_above, seen_elapsed}
 use Rattle.reals.specs.Sign.{is_time, is_sign_negative}
 use Rattle.reals.proofs.Truth.{is_true}
 use Rattle.logical.specs.Timer.{entry_time}
 use Rattle.logical.specs.TrueDelayOnInit.{true_delay_on_init_new, true_delay_on_init_output, true_delay_on_init_update}
 use Rattle.logical.proofs.Differ.{delays_differ_on_row_0}
-use Rattle.refusals.specs.declared.Verdict.{Verdict}
-use Rattle.refusals.specs.declared.Verdict.TheVariants.{Accepted, Refused}
+use Rattle.refusals.specs.Refusals.{Verdict}
 use Rattle.refusals.specs.Refusals.{verdict_or_refused, judge}
 use Rattle.past.specs.Whole.{Taken}
 use Rattle.moving_average.specs.Window.{drop_old}
@@ -30,8 +30,7 @@ use Rattle.relief_fans.specs.Blocks.{delay_at}
 use Rattle.relief_fan_group.specs.declared.types.ReliefRow.{ReliefRow}
 use Rattle.relief_fan_group.specs.declared.types.ReliefState.{ReliefState}
 use Rattle.relief_fan_group.specs.declared.types.ReliefCommands.{ReliefCommands}
-use Rattle.relief_fan_group.specs.declared.types.ReliefAnswer.{ReliefAnswer}
-use Rattle.relief_fan_group.specs.declared.types.ReliefAnswer.TheVariants as Answer
+use Rattle.relief_fan_group.specs.Step.{ReliefAnswer}
 use Rattle.relief_fan_group.specs.Constants.{proof_time}
 use Rattle.relief_fan_group.specs.Verdict.{numbers_finite, after_judged, relief_verdict}
 use Rattle.relief_fan_group.specs.Signals.{pressure_control, relief_signals}
@@ -57,7 +56,7 @@ unfolding moving_average_is_full moving_average_new held zip_with drop_old
 empty_not_full t = refl
 
 module _ (row : ReliefRow) (a : T (is_time row.time)) (b : T (finite row.pressure)) (f : T (alarms_fit row.alarm)) where
-  first_taken : relief_verdict relief_blocks row (moving_average_is_full moving_average_new row.time) ≡ Accepted
+  first_taken : relief_verdict relief_blocks row (moving_average_is_full moving_average_new row.time) ≡ Ok tt
   unfolding relief_verdict after_judged verdict_or_refused judge numbers_finite seen_above relief_blocks
   first_taken =
       rw (
@@ -75,7 +74,7 @@ module _ (row : ReliefRow) (a : T (is_time row.time)) (b : T (finite row.pressur
 
 -- ---- R4: each of the eight delays of a fresh state is a fresh delay of 2 s
 fresh_waits : Waits (true_delay_on_init_new proof_time)
-unfolding true_delay_on_init_new true_delay_on_init_output true_delay_on_init_update entry_time seen_never seen_elapsed round of_bits
+unfolding true_delay_on_init_new true_delay_on_init_output true_delay_on_init_update entry_time seen_elapsed round of_bits
 fresh_waits = record { first = λ start. (delays_differ_on_row_0 start proof_time).1; later = λ start t. refl }
 
 pub waits : (fan : ℕ) → fan < 4 → Waits (delay_at relief_fresh.blocks.tru_del fan) × Waits (delay_at relief_fresh.blocks.tru_del1 fan)
@@ -123,15 +122,15 @@ fits_same alarm = let same = levels fits_byte fits_3 alarm in rw (same 0, same 1
 
 -- the commands of an answer, if it holds any
 commands_or : ReliefCommands → ReliefAnswer → ReliefCommands
-commands_or other (Answer.Commands c) = c
-commands_or other (Answer.Refused r) = other
+commands_or other (Ok c) = c
+commands_or other (Err r) = other
 
 module _ (state : ReliefState) (row : ReliefRow) where
   -- the commands of an accepted row
-  commands_are : (v : Verdict) (c : ReliefCommands) → (step_by v state row).answer ≡ Answer.Commands c → relief_commands row (signals_at state row) ≡ c
+  commands_are : (v : Verdict) (c : ReliefCommands) → (step_by v state row).answer ≡ Ok c → relief_commands row (signals_at state row) ≡ c
   unfolding step_by commands_or
-  commands_are Accepted c e = ap (commands_or c) e
-  commands_are (Refused r) c e = ap (commands_or (relief_commands row (signals_at state row))) e
+  commands_are (Ok tt) c e = ap (commands_or c) e
+  commands_are (Err r) c e = ap (commands_or (relief_commands row (signals_at state row))) e
 
   -- signals do not depend on the alarms, commands not on alarms 3
   signals_same : (alarm : List ℤ) → signals_at state (with_alarm row alarm) ≡ signals_at state row
@@ -145,19 +144,19 @@ module _ (state : ReliefState) (row : ReliefRow) where
   -- so the answer does not depend on alarms 3, the state in nothing but what it remembers, and no speed on any
   answer_without_3 : (v : Verdict) → (step_by v state (with_alarm row (map without3 row.alarm))).answer ≡ (step_by v state row).answer
   unfolding step_by
-  answer_without_3 Accepted = rw (signals_same (map without3 row.alarm), commands_same) refl
-  answer_without_3 (Refused r) = refl
+  answer_without_3 (Ok tt) = rw (signals_same (map without3 row.alarm), commands_same) refl
+  answer_without_3 (Err r) = refl
 
   state_without_3 : (alarms : List ℤ) (v : Verdict)
       → state_remembering alarms (step_by v state (with_alarm row (map without3 row.alarm))).state ≡ state_remembering alarms (step_by v state row).state
   unfolding step_by
-  state_without_3 alarms Accepted = rw (signals_same (map without3 row.alarm), next_whatever_the_alarm row (signals_at state row) (map without3 row.alarm) state.blocks) refl
-  state_without_3 alarms (Refused r) = refl
+  state_without_3 alarms (Ok tt) = rw (signals_same (map without3 row.alarm), next_whatever_the_alarm row (signals_at state row) (map without3 row.alarm) state.blocks) refl
+  state_without_3 alarms (Err r) = refl
 
   speeds : (alarm : List ℤ) (v : Verdict) → told speeds_of (step_by v state (with_alarm row alarm)).answer ≡ told speeds_of (step_by v state row).answer
   unfolding step_by
-  speeds alarm Accepted = rw (signals_same alarm) (ap Taken (speeds_whatever_the_alarm row (signals_at state row) alarm))
-  speeds alarm (Refused r) = refl
+  speeds alarm (Ok tt) = rw (signals_same alarm) (ap Taken (speeds_whatever_the_alarm row (signals_at state row) alarm))
+  speeds alarm (Err r) = refl
 
   abbrev full : Bool
   full = moving_average_is_full state.window row.time

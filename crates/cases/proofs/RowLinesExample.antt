@@ -1,4 +1,5 @@
 -- The example of 'Row lines', computed. Assumes nothing.
+use Rattle.std.specs.Prelude.{Ok}
 use mathlib.Core.Path.{◌≡◌, refl}
 use mathlib.Core.Bool.{true, false}
 use mathlib.Core.List.{[], ◌∷◌}
@@ -7,19 +8,17 @@ use lib.Ieee.{binary64, le, sub, mul, div, is_nan, round, of_bits, to_bits}
 use Rattle.reals.specs.Order.{greater, lesser}
 use Rattle.reals.specs.Limits.{clamp}
 use Rattle.reals.specs.Line.{buildings_line}
-use Rattle.reals.specs.Seen.{seen_never, seen_above}
+use Rattle.reals.specs.Seen.{seen_above}
 use Rattle.reals.specs.Sign.{is_sign_negative}
 use Rattle.reals.specs.Switch.{switch}
 use Rattle.reals.specs.Hysteresis.{hysteresis_new, hysteresis_output}
 use Rattle.reals.specs.Pid.{pid_unlimited, pid_with_reset_new, pid_with_reset_output}
-use Rattle.logical.specs.Switch.{logical_switch}
 use Rattle.logical.specs.TrueFalseHold.{true_false_hold_new, true_false_hold_output_and_timer, true_false_hold_output}
 use Rattle.logical.specs.TrueDelay.{true_delay_new, true_delay_output}
 use Rattle.refusals.specs.Refusals.{judge}
 use Rattle.reals.specs.Constants.{plus_zero, one}
 use Rattle.economizer_controller.specs.declared.types.EconomizerRow.{EconomizerRow}
 use Rattle.economizer_controller.specs.declared.types.EconomizerCommands.{EconomizerCommands}
-use Rattle.economizer_controller.specs.declared.types.EconomizerAnswer.TheVariants as answer
 use Rattle.economizer_controller.specs.Integers.{integers_equal}
 use Rattle.economizer_controller.specs.Verdict.{numbers_finite, economizer_verdict}
 use Rattle.economizer_controller.specs.DamperLimits.{minimum_outdoor_air_loop_enabled, damper_limits}
@@ -76,12 +75,12 @@ row_is = refl
 commands : EconomizerCommands
 commands = record { outdoor_damper_min_limit = plus_zero; minimum_outdoor_air_loop_enabled = true; outdoor_damper_command = plus_zero; return_damper_command = one }
 
-answer_is : (economizer_row economizer_fresh row).answer ≡ answer.Commands commands
-unfolding row commands economizer_row step_by economizer_verdict judge numbers_finite is_sign_negative seen_above economizer_fresh economizer_signals economizer_commands minimum_outdoor_air_loop_enabled damper_limits enable_new enable_output enable_limits relief_modulation hysteresis_new hysteresis_output pid_unlimited pid_with_reset_new pid_with_reset_output true_false_hold_new true_false_hold_output_and_timer true_false_hold_output true_delay_new true_delay_output integers_equal logical_switch seen_never buildings_line clamp greater lesser switch is_nan le sub mul div of_bits
+answer_is : (economizer_row economizer_fresh row).answer ≡ Ok commands
+unfolding row commands economizer_row step_by economizer_verdict judge numbers_finite is_sign_negative seen_above economizer_fresh economizer_signals economizer_commands minimum_outdoor_air_loop_enabled damper_limits enable_new enable_output enable_limits relief_modulation hysteresis_new hysteresis_output pid_unlimited pid_with_reset_new pid_with_reset_output true_false_hold_new true_false_hold_output_and_timer true_false_hold_output true_delay_new true_delay_output integers_equal switch buildings_line clamp greater lesser is_nan le sub mul div of_bits
 answer_is = refl
 
 -- the line of the commands
-line_is : words_line econ_answer_forms (econ_answer_words (answer.Commands commands)) ≡ output_bytes
+line_is : words_line econ_answer_forms (econ_answer_words (Ok commands)) ≡ output_bytes
 unfolding words_line econ_answer_words econ_command_words commands output_bytes answer_text bytes_of line_of word_column column to_bits of_bits
 line_is = refl
 

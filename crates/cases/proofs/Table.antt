@@ -2,13 +2,12 @@
 use mathlib.Core.Path.{refl}
 use lib.Ieee.{le, sub, of_bits, is_nan}
 use Rattle.reals.specs.Order.{greater}
-use Rattle.reals.specs.Seen.{seen_never, seen_above, seen_elapsed, seen_gap}
+use Rattle.reals.specs.Seen.{seen_above, seen_elapsed, seen_gap}
 use Rattle.reals.specs.Sign.{is_sign_negative}
 use Rattle.reals.specs.Switch.{switch}
 use Rattle.reals.specs.Threshold.{crosses, threshold_above, threshold_below, threshold_output, threshold_update}
 use Rattle.logical.specs.Edge.{edge_output, edge_update}
 use Rattle.logical.specs.Latch.{latch_new, latch_output, latch_update}
-use Rattle.logical.specs.Switch.{logical_switch}
 use Rattle.logical.specs.Timer.{entry_time, elapsed_time}
 use Rattle.logical.specs.HeldTimer.{held_timer_new, held_timer_output, held_timer_update}
 use Rattle.logical.specs.TrueFalseHold.{true_false_hold_new, true_false_hold_required, true_false_hold_output_and_timer, true_false_hold_output, true_false_hold_update}
@@ -25,7 +24,7 @@ use Rattle.cases.proofs.ReliefCases.{first_mean_told, alarm_guard, waits}
 use Rattle.cases.proofs.EconomizerCases.{rises_and_stays, starts_and_waits}
 
 pub all_cases : Cases
-unfolding stages signalled run freeze_row step_by freeze_verdict judge numbers_finite is_sign_negative seen_above freeze_fresh freeze_next freeze_commands freeze_signals freeze_calls stage_number crosses threshold_above threshold_below threshold_output threshold_update edge_output edge_update latch_new latch_output latch_update logical_switch entry_time elapsed_time held_timer_new held_timer_output held_timer_update true_false_hold_new true_false_hold_required true_false_hold_output_and_timer true_false_hold_output true_false_hold_update seen_never seen_elapsed seen_gap greater switch is_nan le sub of_bits
+unfolding stages signalled run freeze_row step_by freeze_verdict judge numbers_finite is_sign_negative seen_above freeze_fresh freeze_next freeze_commands freeze_signals freeze_calls stage_number crosses threshold_above threshold_below threshold_output threshold_update edge_output edge_update latch_new latch_output latch_update switch entry_time elapsed_time held_timer_new held_timer_output held_timer_update true_false_hold_new true_false_hold_required true_false_hold_output_and_timer true_false_hold_output true_false_hold_update seen_elapsed seen_gap greater is_nan le sub of_bits
 all_cases = record {
   f1 = λ o. (refl, refl);
   f2 = λ o. (refl, refl, refl);

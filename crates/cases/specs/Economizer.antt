@@ -1,8 +1,7 @@
 -- What the cases E1 and E2 speak of.
-use Rattle.std.specs.Prelude.{ℕ, ◌≡◌, Bool, true, false, not, cond, List, [], ◌∷◌, map, Float, ℤ, pos}
+use Rattle.std.specs.Prelude.{ℕ, ◌≡◌, Bool, true, false, not, cond, List, [], ◌∷◌, map, Float, ℤ, pos, Ok}
 use Rattle.std.specs.Float.{binary64}
 use Rattle.std.specs.Float.Ieee.{sub, lt, le}
-use Rattle.refusals.specs.declared.Verdict.TheVariants.{Accepted}
 use Rattle.logical.specs.Run.{run}
 use Rattle.past.specs.Whole.{Told}
 use Rattle.economizer_controller.specs.declared.types.EconomizerRow.{EconomizerRow}
@@ -31,7 +30,7 @@ pub record RisesAndStays : Type 0 where
   -- it rises on row 0 where the difference is above 0
   pub first : (row : EconomizerRow) → condition_at economizer_fresh row ≡ lt zero (difference row)
   -- after any accepted row: where it was off it rises where the difference is above 0, where it was on it stays while the difference is at least −1
-  pub later : (state : EconomizerState) (row next : EconomizerRow) → economizer_verdict state row ≡ Accepted
+  pub later : (state : EconomizerState) (row next : EconomizerRow) → economizer_verdict state row ≡ Ok tt
       → condition_at (economizer_returned state row) next ≡ cond (condition_at state row) (le minus_one (difference next)) (lt zero (difference next))
 
 -- ---- E2: the two delays, of 15 s and of 180 s, of 'not enabled'
@@ -85,7 +84,7 @@ pub record StartsAndWaits : Type 0 where
   -- true on row 0 if its input is
   pub first : (row : EconomizerRow) → Delays (enable_at economizer_fresh row) (not (enable_at economizer_fresh row).enabled)
   -- later it starts false: on a row after an accepted one that was enabled
-  pub later : (state : EconomizerState) (row next : EconomizerRow) → economizer_verdict state row ≡ Accepted → (enable_at state row).enabled ≡ true
+  pub later : (state : EconomizerState) (row next : EconomizerRow) → economizer_verdict state row ≡ Ok tt → (enable_at state row).enabled ≡ true
       → Delays (enable_at (economizer_returned state row) next) false
   -- not enabled from 60 on: outdoor 15 s (14 no, 15 yes), return 180 s (179 no, 180 yes)
   pub waits : (o : ℕ → EconomizerOthers)

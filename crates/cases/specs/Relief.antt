@@ -1,5 +1,5 @@
 -- What the cases R3 and R4 speak of.
-use Rattle.std.specs.Prelude.{ℕ, ◌<◌, ◌≡◌, true, false, cond, List, map, eqb, ℤ, pos, negsuc, Float}
+use Rattle.std.specs.Prelude.{ℕ, ◌<◌, ◌≡◌, true, false, cond, List, map, eqb, ℤ, pos, negsuc, Float, Ok, Err}
 use Rattle.std.specs.Float.{binary64}
 use Rattle.std.specs.Float.Ieee.{sub, le}
 use Rattle.reals.specs.Four.{real, flag}
@@ -11,8 +11,7 @@ use Rattle.relief_fans.specs.Commands.{level}
 use Rattle.relief_fan_group.specs.declared.types.ReliefRow.{ReliefRow}
 use Rattle.relief_fan_group.specs.declared.types.ReliefState.{ReliefState}
 use Rattle.relief_fan_group.specs.declared.types.ReliefCommands.{ReliefCommands}
-use Rattle.relief_fan_group.specs.declared.types.ReliefAnswer.{ReliefAnswer}
-use Rattle.relief_fan_group.specs.declared.types.ReliefAnswer.TheVariants as Answer
+use Rattle.relief_fan_group.specs.Step.{ReliefAnswer}
 use Rattle.relief_fan_group.specs.Step.{relief_row}
 use Rattle.relief_fan_group.specs.Alarms.{speeds_of, dampers_of, with_alarm, state_remembering}
 use Rattle.reals.specs.Constants.{whole}
@@ -20,8 +19,8 @@ use Rattle.cases.specs.Words.{zero}
 
 -- of an answer, the refusal or a part of its commands
 abbrev pub told : {A : Type 0} → (ReliefCommands → A) → ReliefAnswer → Told A
-told f (Answer.Commands c) = Taken (f c)
-told f (Answer.Refused r) = NotTaken r
+told f (Ok c) = Taken (f c)
+told f (Err r) = NotTaken r
 
 -- ---- R3: the alarm guard, for any state and row
 -- an alarm, with none in place of 3
@@ -31,7 +30,7 @@ without3 (negsuc n) = negsuc n
 
 pub record AlarmGuard (state : ReliefState) (row : ReliefRow) : Type 0 where
   -- an unproven fan at alarm 2 has damper 0
-  pub alarm2 : (commands : ReliefCommands) → (relief_row state row).answer ≡ Answer.Commands commands
+  pub alarm2 : (commands : ReliefCommands) → (relief_row state row).answer ≡ Ok commands
       → (fan : ℕ) → fan < 4 → level row.alarm fan ≡ pos 2 → flag row.proof fan ≡ false → real (dampers_of commands) fan ≡ zero
   -- alarm 3 does nothing: the answer is that of the row without it, and so is the state, but for the alarms that it remembers (document 02, job 10)
   pub alarm3 : (relief_row state (with_alarm row (map without3 row.alarm))).answer ≡ (relief_row state row).answer

@@ -1,6 +1,6 @@
 -- Economizer lines (document 01, 'Row lines'): time first, then the record's fields in order; the answer is the status and the outputs in the order of
 -- `ControllerTrace`, or the status alone.
-use Rattle.std.specs.Prelude.{ℕ, List, [], ◌∷◌, eqb, get_or}
+use Rattle.std.specs.Prelude.{ℕ, List, [], ◌∷◌, eqb, get_or, Ok, Err}
 use Rattle.std.specs.Float.{binary64}
 use Rattle.std.specs.Float.Ieee.{of_bits, to_bits}
 use Rattle.columns.specs.Forms.{float, yes_no, signed, unsigned}
@@ -12,8 +12,7 @@ use Rattle.refusals.specs.Refusals.{refusal_number}
 use Rattle.economizer_controller.specs.declared.types.EconomizerRow.{EconomizerRow}
 use Rattle.economizer_controller.specs.declared.types.EconomizerState.{EconomizerState}
 use Rattle.economizer_controller.specs.declared.types.EconomizerCommands.{EconomizerCommands}
-use Rattle.economizer_controller.specs.declared.types.EconomizerAnswer.{EconomizerAnswer}
-use Rattle.economizer_controller.specs.declared.types.EconomizerAnswer.TheVariants as answer
+use Rattle.economizer_controller.specs.Step.{EconomizerAnswer}
 use Rattle.economizer_controller.specs.Verdict.{numbers_finite}
 use Rattle.economizer_controller.specs.Step.{economizer_row}
 
@@ -82,8 +81,8 @@ econ_command_words commands =
 
 -- the words of an answer: the number of a refusal alone
 unfoldable pub econ_answer_words : EconomizerAnswer → List ℕ
-econ_answer_words (answer.Commands commands) = econ_command_words commands
-econ_answer_words (answer.Refused refusal) = refusal_number refusal ∷ []
+econ_answer_words (Ok commands) = econ_command_words commands
+econ_answer_words (Err refusal) = refusal_number refusal ∷ []
 
 -- ---- the kind
 

@@ -128,8 +128,8 @@ fn answer_words(answer: EconomizerAnswer) -> Words
     ensures { result ≡ word_list (econ_answer_words answer) }
 {
     match answer {
-        EconomizerAnswer::Commands(commands) => command_words(commands),
-        EconomizerAnswer::Refused(refusal) => {
+        Ok(commands) => command_words(commands),
+        Err(refusal) => {
             let number = refusal.number();
             status_alone(number)
         }

@@ -1,5 +1,6 @@
 -- Demand 3 for economizer rows: for every list of rows from a fresh start and at every place in it, refusal or enable and both delays are those that document 01
 -- reads off the accepted rows up to there. Assumes nothing.
+use Rattle.std.specs.Prelude.{Ok, Err}
 use Prim.Native.Nat.{ℕ, suc, ◌<◌}
 use mathlib.Core.Path.{◌≡◌, refl}
 use mathlib.Core.Bool.{Bool, true, false, ◌&&◌}
@@ -17,8 +18,7 @@ use Rattle.reals.specs.Pid.{pid_with_reset_new, pid_with_reset_update}
 use Rattle.logical.specs.declared.true_delay.TrueDelayState.{TrueDelayState}
 use Rattle.logical.specs.TrueFalseHold.{true_false_hold_output}
 use Rattle.logical.specs.TrueDelay.{true_delay_new, true_delay_output, true_delay_update}
-use Rattle.refusals.specs.declared.Verdict.{Verdict}
-use Rattle.refusals.specs.declared.Verdict.TheVariants.{Accepted, Refused}
+use Rattle.refusals.specs.Refusals.{Verdict}
 use Rattle.past.specs.Acceptance.{last_time}
 use Rattle.past.specs.Stepped.{stepped, in_order}
 use Rattle.logical.specs.Run.{run}
@@ -158,24 +158,24 @@ module _ (state : EconomizerState) (row : EconomizerRow) where
   economizer_answer = go (economizer_verdict state row)
     where
       go : (v : Verdict) → (step_by v state row).answer ≡ answer_from row (told_by v (economizer_signals state row))
-      go Accepted = refl
-      go (Refused r) = refl
+      go (Ok tt) = refl
+      go (Err r) = refl
 
   pub economizer_told_lem : economizer_told state row ≡ told_by (economizer_verdict state row) (reading_in (economizer_signals state row))
   unfolding economizer_worked
   economizer_told_lem = go (economizer_verdict state row)
     where
       go : (v : Verdict) → reading_from (told_by v (economizer_signals state row)) ≡ told_by v (reading_in (economizer_signals state row))
-      go Accepted = refl
-      go (Refused r) = refl
+      go (Ok tt) = refl
+      go (Err r) = refl
 
   pub economizer_returned_lem : economizer_returned state row ≡ next_by (economizer_verdict state row) (economizer_next state row (economizer_signals state row)) state
   unfolding economizer_row step_by
   economizer_returned_lem = go (economizer_verdict state row)
     where
       go : (v : Verdict) → (step_by v state row).state ≡ next_by v (economizer_next state row (economizer_signals state row)) state
-      go Accepted = refl
-      go (Refused r) = refl
+      go (Ok tt) = refl
+      go (Err r) = refl
 
 -- ---- whole lists
 time_finite : (x : EconomizerRow) → T (numbers_finite x) → T (finite x.time)

@@ -1,4 +1,5 @@
 -- The outdoor damper command never exceeds the enable pass's upper limit: for the third pass on its own, where a NaN may stand, and for every row. Assumes nothing.
+use Rattle.std.specs.Prelude.{Ok, Err}
 use Prim.Native.Nat.{ℕ}
 use native.Mathlib.Omega.{arith}
 use mathlib.Core.Path.{◌≡◌, refl}
@@ -11,15 +12,13 @@ use Rattle.reals.specs.Limits.{clamp}
 use Rattle.reals.specs.Line.{buildings_line}
 use Rattle.reals.specs.Switch.{switch}
 use Rattle.reals.proofs.Between.{lesser_at_most, lesser_nan, lesser_of_nan, clamp_finite, switch_number, mul_number, add_number}
-use Rattle.refusals.specs.declared.Verdict.{Verdict}
-use Rattle.refusals.specs.declared.Verdict.TheVariants.{Accepted, Refused}
+use Rattle.refusals.specs.Refusals.{Verdict}
 use Rattle.economizer_controller.specs.declared.types.DamperLimits.{DamperLimits}
 use Rattle.economizer_controller.specs.declared.types.EnableSignals.{EnableSignals}
 use Rattle.economizer_controller.specs.declared.types.EnableLimits.{EnableLimits}
 use Rattle.economizer_controller.specs.declared.types.EconomizerRow.{EconomizerRow}
 use Rattle.economizer_controller.specs.declared.types.EconomizerState.{EconomizerState}
 use Rattle.economizer_controller.specs.declared.types.EconomizerCommands.{EconomizerCommands}
-use Rattle.economizer_controller.specs.declared.types.EconomizerAnswer.TheVariants as Answer
 use Rattle.economizer_controller.specs.DamperLimits.{damper_limits}
 use Rattle.economizer_controller.specs.Enable.{enable_limits}
 use Rattle.economizer_controller.specs.Relief.{outdoor_position, relief_modulation}
@@ -83,12 +82,12 @@ module _ (state : EconomizerState) (row : EconomizerRow) where
       (unfold economizer_signals in upper_limit_number _ _ _)
 
   -- so it is of the commands that `economizer_row` answers
-  pub outdoor_command_limited : (commands : EconomizerCommands) → (economizer_row state row).answer ≡ Answer.Commands commands
+  pub outdoor_command_limited : (commands : EconomizerCommands) → (economizer_row state row).answer ≡ Ok commands
       → T (le commands.outdoor_damper_command (economizer_signals state row).enable_limits.outdoor_damper_max_limit)
   unfolding economizer_row step_by
   outdoor_command_limited commands e = go (economizer_verdict state row) e
     where
-      go : (v : Verdict) → (step_by v state row).answer ≡ Answer.Commands commands
+      go : (v : Verdict) → (step_by v state row).answer ≡ Ok commands
           → T (le commands.outdoor_damper_command (economizer_signals state row).enable_limits.outdoor_damper_max_limit)
-      go Accepted e = let same : economizer_commands row (economizer_signals state row) ≡ commands = cc in rw (← same) row_command_at_most
-      go (Refused r) e = absurd (let z : ◌≡◌ {A = ℕ} 0 1 = cc in omega arith)
+      go (Ok tt) e = let same : economizer_commands row (economizer_signals state row) ≡ commands = cc in rw (← same) row_command_at_most
+      go (Err r) e = absurd (let z : ◌≡◌ {A = ℕ} 0 1 = cc in omega arith)

@@ -4,7 +4,7 @@ use Rattle.std.specs.Prelude.{Bool, false, not, ◌&&◌, List, [], ◌∷◌, F
 use Rattle.std.specs.Float.{binary64}
 use Rattle.std.specs.Float.Ieee.{sub, lt, le}
 use Rattle.reals.specs.Constants.{plus_zero, minus_one}
-use Rattle.refusals.specs.declared.Verdict.{Verdict}
+use Rattle.refusals.specs.Refusals.{Verdict}
 use Rattle.past.specs.Past.{since}
 use Rattle.past.specs.Runs.{delayed}
 use Rattle.past.specs.Turns.{hold}

@@ -1,15 +1,15 @@
 -- A fresh state, a row's signals and commands, the state after an accepted row, and a row: its commands and the next state, or its refusal and the old state.
 -- Economizers.Controller with minOADes = SingleDamper and a relief damper, as `economizer_controller_trace` has it: the three passes in each row.
-use Rattle.reals.specs.declared.seen.Seen.TheVariants.{Never, At}
+use Rattle.std.specs.Prelude.{None, Some, Result}
 use Rattle.reals.specs.Pid.{pid_with_reset_new, pid_with_reset_output, pid_with_reset_update}
-use Rattle.refusals.specs.declared.Verdict.{Verdict}
-use Rattle.refusals.specs.declared.Verdict.TheVariants.{Accepted, Refused}
+use Rattle.refusals.specs.declared.Refusal.{Refusal}
+use Rattle.refusals.specs.declared.step.Step.{Step}
+use Rattle.refusals.specs.Refusals.{Verdict}
+use Rattle.refusals.specs.Step.{stepped}
 use Rattle.economizer_controller.specs.declared.types.EconomizerRow.{EconomizerRow}
 use Rattle.economizer_controller.specs.declared.types.EconomizerState.{EconomizerState}
 use Rattle.economizer_controller.specs.declared.types.EconomizerSignals.{EconomizerSignals}
 use Rattle.economizer_controller.specs.declared.types.EconomizerCommands.{EconomizerCommands}
-use Rattle.economizer_controller.specs.declared.types.EconomizerAnswer.TheVariants as Answer
-use Rattle.economizer_controller.specs.declared.types.EconomizerStep.{EconomizerStep}
 use Rattle.economizer_controller.specs.Constants.{outdoor_air_cutoff}
 use Rattle.economizer_controller.specs.Verdict.{economizer_verdict}
 use Rattle.economizer_controller.specs.DamperLimits.{minimum_outdoor_air_loop_enabled, damper_limits}
@@ -18,7 +18,7 @@ use Rattle.economizer_controller.specs.Relief.{relief_modulation}
 
 -- every block as it stands before any row
 unfoldable pub economizer_fresh : EconomizerState
-economizer_fresh = record { last = Never; minimum_outdoor_air_loop = pid_with_reset_new; enable = enable_new }
+economizer_fresh = record { last = None; minimum_outdoor_air_loop = pid_with_reset_new; enable = enable_new }
 
 -- the first two passes (damLim, enaDis): every block's output, and the limits worked from them
 unfoldable pub economizer_signals : EconomizerState → EconomizerRow → EconomizerSignals
@@ -50,18 +50,25 @@ economizer_commands row signals =
 -- every block one row further; the loop is reset where the supply fan rises, after its output (E3)
 unfoldable pub economizer_next : EconomizerState → EconomizerRow → EconomizerSignals → EconomizerState
 economizer_next state row signals = record {
-  last = At row.time;
+  last = Some row.time;
   minimum_outdoor_air_loop =
       pid_with_reset_update state.minimum_outdoor_air_loop row.time row.minimum_outdoor_airflow_setpoint_normalized row.outdoor_airflow_normalized
       row.supply_fan_status;
   enable = enable_update state.enable row.time signals.enable;
 }
 
+-- a row's answer: the commands of an accepted row, or the refusal; and beside it the state for the next row
+abbrev pub EconomizerAnswer : Type 0
+EconomizerAnswer = Result EconomizerCommands Refusal
+
+abbrev pub EconomizerStep : Type 0
+EconomizerStep = Step EconomizerCommands EconomizerState
+
 -- a row that is accepted has its commands and moves the state on; a refused one has the refusal, no command, and hands the old state back
 unfoldable pub step_by : Verdict → EconomizerState → EconomizerRow → EconomizerStep
-step_by Accepted state row =
-    let signals = economizer_signals state row in record { answer = Answer.Commands (economizer_commands row signals); state = economizer_next state row signals }
-step_by (Refused refusal) state row = record { answer = Answer.Refused refusal; state = state }
+step_by verdict state row =
+    let signals = economizer_signals state row in
+    stepped verdict (economizer_commands row signals) (economizer_next state row signals) state
 
 -- a row (document 01, 'What each row refuses'): what its verdict makes of it
 unfoldable pub economizer_row : EconomizerState → EconomizerRow → EconomizerStep

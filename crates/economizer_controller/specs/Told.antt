@@ -1,11 +1,11 @@
 -- What an economizer row tells: its refusal, or enable and both delays that its commands are worked from. The theorem of proofs/Demand3.antt is about a run of
 -- these.
+use Rattle.std.specs.Prelude.{Ok, Err}
 use Rattle.past.specs.Whole.{Told, NotTaken, Taken, told_by}
 use Rattle.economizer_controller.specs.declared.types.EconomizerRow.{EconomizerRow}
 use Rattle.economizer_controller.specs.declared.types.EconomizerState.{EconomizerState}
 use Rattle.economizer_controller.specs.declared.types.EconomizerSignals.{EconomizerSignals}
-use Rattle.economizer_controller.specs.declared.types.EconomizerAnswer.{EconomizerAnswer}
-use Rattle.economizer_controller.specs.declared.types.EconomizerAnswer.TheVariants as Answer
+use Rattle.economizer_controller.specs.Step.{EconomizerAnswer}
 use Rattle.economizer_controller.specs.Verdict.{economizer_verdict}
 use Rattle.economizer_controller.specs.Step.{economizer_signals, economizer_commands, economizer_row}
 use Rattle.economizer_controller.specs.Reading.{EconomizerReading}
@@ -16,8 +16,8 @@ economizer_worked state row = told_by (economizer_verdict state row) (economizer
 
 -- the answer that these make; `economizer_answer` of proofs/Demand3.antt: it is the answer of `economizer_row`
 abbrev pub answer_from : EconomizerRow → Told EconomizerSignals → EconomizerAnswer
-answer_from row (NotTaken refusal) = Answer.Refused refusal
-answer_from row (Taken signals) = Answer.Commands (economizer_commands row signals)
+answer_from row (NotTaken refusal) = Err refusal
+answer_from row (Taken signals) = Ok (economizer_commands row signals)
 
 -- enable and delays as they stand in a row's signals
 abbrev pub reading_in : EconomizerSignals → EconomizerReading

@@ -51,18 +51,14 @@ impl EnableState {
     ) -> EnableSignals
         ensures { result ≡ enable_output self t outdoor_air_temperature outdoor_air_cutoff supply_fan_status freeze_protection_stage }
     {
-        let hysteresis = self.hysteresis;
-        let hold = self.hold;
-        let outdoor_delay = self.outdoor_delay;
-        let return_delay = self.return_delay;
         let dry_bulb_delta = outdoor_air_temperature - outdoor_air_cutoff;
-        let outdoor_air_condition = hysteresis.output(dry_bulb_delta);
-        let held_condition = hold.output(t, outdoor_air_condition);
+        let outdoor_air_condition = self.hysteresis.output(dry_bulb_delta);
+        let held_condition = self.hold.output(t, outdoor_air_condition);
         let stage_0 = integers_equal(freeze_protection_stage, Self::NO_FREEZE_STAGE);
         let enabled = held_condition & supply_fan_status & stage_0;
         let disabled = !enabled;
-        let outdoor_delay_done = outdoor_delay.output(t, disabled, Self::OUTDOOR_DELAY);
-        let return_delay_done = return_delay.output(t, disabled, Self::RETURN_DELAY);
+        let outdoor_delay_done = self.outdoor_delay.output(t, disabled, Self::OUTDOOR_DELAY);
+        let return_delay_done = self.return_delay.output(t, disabled, Self::RETURN_DELAY);
         EnableSignals {
             dry_bulb_delta,
             outdoor_air_condition,
@@ -78,16 +74,12 @@ impl EnableState {
     pub fn update(mut self, t: f64, signals: EnableSignals) -> Self
         ensures { result ≡ enable_update self t signals }
     {
-        let hysteresis = self.hysteresis;
-        let hold = self.hold;
-        let outdoor_delay = self.outdoor_delay;
-        let return_delay = self.return_delay;
         let disabled = !signals.enabled;
         EnableState {
-            hysteresis: hysteresis.update(signals.dry_bulb_delta),
-            hold: hold.update(t, signals.outdoor_air_condition),
-            outdoor_delay: outdoor_delay.update(t, disabled, Self::OUTDOOR_DELAY),
-            return_delay: return_delay.update(t, disabled, Self::RETURN_DELAY),
+            hysteresis: self.hysteresis.update(signals.dry_bulb_delta),
+            hold: self.hold.update(t, signals.outdoor_air_condition),
+            outdoor_delay: self.outdoor_delay.update(t, disabled, Self::OUTDOOR_DELAY),
+            return_delay: self.return_delay.update(t, disabled, Self::RETURN_DELAY),
         }
     }
 }

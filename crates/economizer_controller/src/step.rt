@@ -6,13 +6,11 @@ use crate::damper_limits::{damper_limits, minimum_outdoor_air_loop_enabled};
 use crate::enable::{EnableState, enable_limits};
 use crate::relief::relief_modulation;
 use crate::types::{
-    EconomizerAnswer, EconomizerCommands, EconomizerRow, EconomizerSignals, EconomizerState,
-    EconomizerStep,
+    EconomizerCommands, EconomizerRow, EconomizerSignals, EconomizerState, EconomizerStep,
 };
 use crate::verdict::economizer_verdict;
 use reals::pid_with_reset::PidWithResetState;
-use reals::seen::Seen;
-use refusals::Verdict;
+use refusals::step::step_by;
 
 // The fixed dry-bulb cutoff, in kelvin: 21 °C.
 const OUTDOOR_AIR_CUTOFF: f64 = 294.15;
@@ -23,7 +21,7 @@ pub fn economizer_fresh() -> EconomizerState
     ensures { result ≡ economizer_fresh }
 {
     EconomizerState {
-        last: Seen::Never,
+        last: None,
         minimum_outdoor_air_loop: PidWithResetState::new(),
         enable: EnableState::new(),
     }
@@ -34,12 +32,11 @@ pub fn economizer_fresh() -> EconomizerState
 pub fn economizer_signals(state: EconomizerState, row: EconomizerRow) -> EconomizerSignals
     ensures { result ≡ economizer_signals state row }
 {
-    let minimum_outdoor_air_loop = state.minimum_outdoor_air_loop;
     let enable_state = state.enable;
     let setpoint = row.minimum_outdoor_airflow_setpoint_normalized;
     let airflow = row.outdoor_airflow_normalized;
     let fan = row.supply_fan_status;
-    let loop_signal = minimum_outdoor_air_loop.output(setpoint, airflow);
+    let loop_signal = state.minimum_outdoor_air_loop.output(setpoint, airflow);
     let loop_enabled = minimum_outdoor_air_loop_enabled(fan, row.operation_mode);
     let limits = damper_limits(loop_signal, loop_enabled);
     let enable = enable_state.output(
@@ -85,16 +82,16 @@ pub fn economizer_next(
     ensures { result ≡ economizer_next state row signals }
 {
     let t = row.time;
-    let minimum_outdoor_air_loop = state.minimum_outdoor_air_loop;
     let enable_state = state.enable;
-    let enable = signals.enable;
     let setpoint = row.minimum_outdoor_airflow_setpoint_normalized;
     let airflow = row.outdoor_airflow_normalized;
     let fan = row.supply_fan_status;
-    let next_loop = minimum_outdoor_air_loop.update(t, setpoint, airflow, fan);
-    let next_enable = enable_state.update(t, enable);
+    let next_loop = state
+        .minimum_outdoor_air_loop
+        .update(t, setpoint, airflow, fan);
+    let next_enable = enable_state.update(t, signals.enable);
     EconomizerState {
-        last: Seen::At(t),
+        last: Some(t),
         minimum_outdoor_air_loop: next_loop,
         enable: next_enable,
     }
@@ -105,20 +102,11 @@ pub fn economizer_next(
 pub fn economizer_row(state: EconomizerState, row: EconomizerRow) -> EconomizerStep
     ensures { result ≡ economizer_row state row }
 {
-    let verdict = economizer_verdict(state, row);
-    // The old state stands until the row is accepted. A copy of its own in each case would make every row copy the unused bytes between the fields.
-    let mut next = state;
-    let answer = match verdict {
-        Verdict::Accepted => {
-            let signals = economizer_signals(state, row);
-            let commands = economizer_commands(row, signals);
-            next = economizer_next(state, row, signals);
-            EconomizerAnswer::Commands(commands)
-        }
-        Verdict::Refused(refusal) => EconomizerAnswer::Refused(refusal),
-    };
-    EconomizerStep {
-        answer,
-        state: next,
-    }
+    step_by(economizer_verdict(state, row), state, || {
+        let signals = economizer_signals(state, row);
+        (
+            economizer_commands(row, signals),
+            economizer_next(state, row, signals),
+        )
+    })
 }

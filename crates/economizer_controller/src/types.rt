@@ -1,8 +1,8 @@
 // The records of the economizer, with the names and the order of economizer_controller.rs.
 use crate::enable::EnableState;
 use reals::pid_with_reset::PidWithResetState;
-use reals::seen::Seen;
 use refusals::Refusal;
+use refusals::step::Step;
 
 // A sampled row: its time in seconds, and `Row`. Airflows are normalized, the temperature is in kelvin. Mode 1 is occupied; stage 0 is no freeze protection.
 #[derive(Clone, Copy)]
@@ -20,7 +20,7 @@ pub struct EconomizerRow {
 // The time of the last accepted row, the loop of the first pass and the blocks of the second. The third has none.
 #[derive(Clone, Copy)]
 pub struct EconomizerState {
-    pub last: Seen,
+    pub last: Option<f64>,
     pub minimum_outdoor_air_loop: PidWithResetState,
     pub enable: EnableState,
 }
@@ -80,14 +80,8 @@ pub struct EconomizerCommands {
     pub return_damper_command: f64,
 }
 
-#[derive(Clone, Copy)]
-pub enum EconomizerAnswer {
-    Commands(EconomizerCommands),
-    Refused(Refusal),
-}
+// A row's answer: the commands of an accepted row, or the refusal.
+pub type EconomizerAnswer = Result<EconomizerCommands, Refusal>;
 
-#[derive(Clone, Copy)]
-pub struct EconomizerStep {
-    pub answer: EconomizerAnswer,
-    pub state: EconomizerState,
-}
+// A row's answer, and the state for the next row.
+pub type EconomizerStep = Step<EconomizerCommands, EconomizerState>;

@@ -22,7 +22,5 @@ pub fn numbers_finite(row: EconomizerRow) -> bool
 pub fn economizer_verdict(state: EconomizerState, row: EconomizerRow) -> Verdict
     ensures { result ≡ economizer_verdict state row }
 {
-    let last = state.last;
-    let finite = numbers_finite(row);
-    judge(finite, row.time, last)
+    judge(numbers_finite(row), row.time, state.last)
 }

@@ -1,6 +1,6 @@
 -- Freeze protection's lines (document 01, 'Row lines'): time first, then the record's fields in order; the answer is the status and the outputs in the order of
 -- the Rust trace, or the status alone.
-use Rattle.std.specs.Prelude.{ℕ, List, [], ◌∷◌, eqb, get_or}
+use Rattle.std.specs.Prelude.{ℕ, List, [], ◌∷◌, eqb, get_or, Ok, Err}
 use Rattle.std.specs.Float.{binary64}
 use Rattle.std.specs.Float.Ieee.{of_bits, to_bits}
 use Rattle.columns.specs.Forms.{float, yes_no, unsigned}
@@ -12,8 +12,7 @@ use Rattle.refusals.specs.Refusals.{refusal_number}
 use Rattle.freeze_protection.specs.declared.types.FreezeRow.{FreezeRow}
 use Rattle.freeze_protection.specs.declared.types.FreezeState.{FreezeState}
 use Rattle.freeze_protection.specs.declared.types.FreezeCommands.{FreezeCommands}
-use Rattle.freeze_protection.specs.declared.types.FreezeAnswer.{FreezeAnswer}
-use Rattle.freeze_protection.specs.declared.types.FreezeAnswer.TheVariants as answer
+use Rattle.freeze_protection.specs.Step.{FreezeAnswer}
 use Rattle.freeze_protection.specs.Verdict.{numbers_finite}
 use Rattle.freeze_protection.specs.Step.{freeze_row}
 
@@ -108,8 +107,8 @@ freeze_command_words commands =
 
 -- the words of an answer: the number of a refusal alone
 unfoldable pub freeze_answer_words : FreezeAnswer → List ℕ
-freeze_answer_words (answer.Commands commands) = freeze_command_words commands
-freeze_answer_words (answer.Refused refusal) = refusal_number refusal ∷ []
+freeze_answer_words (Ok commands) = freeze_command_words commands
+freeze_answer_words (Err refusal) = refusal_number refusal ∷ []
 
 -- ---- the kind
 

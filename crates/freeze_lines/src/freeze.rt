@@ -139,8 +139,8 @@ fn answer_words(answer: FreezeAnswer) -> Words
     ensures { result ≡ word_list (freeze_answer_words answer) }
 {
     match answer {
-        FreezeAnswer::Commands(commands) => command_words(commands),
-        FreezeAnswer::Refused(refusal) => {
+        Ok(commands) => command_words(commands),
+        Err(refusal) => {
             let number = refusal.number();
             status_alone(number)
         }

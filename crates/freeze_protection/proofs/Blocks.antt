@@ -1,5 +1,6 @@
 -- Freeze protection's state as a function of the past: each block is the reading that document 01 gives it, and the two loops are stepped over the rows.
 -- One row further the signals are the readings, and the next state is the state of the longer past. Assumes nothing.
+use Rattle.std.specs.Prelude.{None, Some}
 use mathlib.Core.Path.{◌≡◌, refl}
 use mathlib.Core.Bool.{false, ◌||◌}
 use mathlib.Core.List.{[], ◌∷◌}
@@ -8,7 +9,6 @@ use lib.Ieee.{Float, binary64, add, sub, lt, le, of_bits, is_nan}
 use Rattle.reals.specs.Constants.{plus_zero}
 use Rattle.reals.specs.Order.{greater}
 use Rattle.reals.specs.Switch.{switch}
-use Rattle.reals.specs.declared.seen.Seen.TheVariants.{Never, At}
 use Rattle.reals.specs.declared.threshold.ThresholdMode.TheVariants.{Greater, Less}
 use Rattle.reals.specs.declared.pid.PidState.{PidState}
 use Rattle.reals.specs.Threshold.{threshold_output}
@@ -175,7 +175,7 @@ signals_of x h = record {
 pub fresh_is : freeze_fresh ≡ state_of []
 unfolding freeze_fresh
 fresh_is = λ i. record {
-  last = Never;
+  last = None;
   les_thr = threshold_new_lem supply_of Less cold_stage1 band i;
   tim = held_timer_new_lem time_of_row five_minutes (cold cold_stage1) (cold_none cold_stage1) five_positive i;
   hea_coil_stage_1 = pid_new;
@@ -263,7 +263,7 @@ module _ (x : FreezeRow) (h : Past) (o : T (in_order time_of_row (x ∷ h))) whe
   pub next_reads : freeze_next (state_of h) x (signals_of x h) ≡ state_of (x ∷ h)
   unfolding freeze_next
   next_reads = λ i. record {
-    last = At x.time;
+    last = Some x.time;
     les_thr = threshold_update_lem supply_of Less cold_stage1 band band1 x h i;
     tim = held_timer_update_lem time_of_row five_minutes (cold cold_stage1) (cold_none cold_stage1) five_positive x h i;
     hea_coil_stage_1 = heat_stage1 (x ∷ h);

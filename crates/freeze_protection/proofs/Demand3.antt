@@ -1,5 +1,6 @@
 -- Demand 3 for freeze rows: for every list of rows from a fresh start, refused ones included, and every place in it, the row's answer is the refusal that the
 -- list alone tells, or else its stage is the one that document 01 reads off the accepted rows up to there. Assumes nothing.
+use Rattle.std.specs.Prelude.{Ok, Err}
 use Prim.Native.Nat.{ℕ, suc, ◌<◌}
 use mathlib.Core.Path.{◌≡◌, refl}
 use mathlib.Core.Bool.{Bool, true, false, ◌&&◌}
@@ -7,8 +8,7 @@ use mathlib.Core.List.{List, [], ◌∷◌, reverse}
 use lib.Dec.{T}
 use lib.ListN.{length, get_or, take}
 use lib.Ieee.Scale.{finite}
-use Rattle.refusals.specs.declared.Verdict.{Verdict}
-use Rattle.refusals.specs.declared.Verdict.TheVariants.{Accepted, Refused}
+use Rattle.refusals.specs.Refusals.{Verdict}
 use Rattle.past.specs.Stepped.{in_order}
 use Rattle.logical.specs.Run.{run}
 use Rattle.past.specs.Whole.{Told, told_by, next_by, read_all}
@@ -32,16 +32,16 @@ module _ (state : FreezeState) (row : FreezeRow) where
   told_is = go (freeze_verdict state row)
     where
       go : (v : Verdict) → stage_told (step_by v state row).answer ≡ told_by v (freeze_signals state row).stage
-      go Accepted = refl
-      go (Refused r) = refl
+      go (Ok tt) = refl
+      go (Err r) = refl
 
   returned_is : freeze_returned state row ≡ next_by (freeze_verdict state row) (freeze_next state row (freeze_signals state row)) state
   unfolding freeze_row step_by
   returned_is = go (freeze_verdict state row)
     where
       go : (v : Verdict) → (step_by v state row).state ≡ next_by v (freeze_next state row (freeze_signals state row)) state
-      go Accepted = refl
-      go (Refused r) = refl
+      go (Ok tt) = refl
+      go (Err r) = refl
 
 -- ---- one row further
 module _ (x : FreezeRow) (h : Past) (o : T (in_order time_of_row (x ∷ h))) where

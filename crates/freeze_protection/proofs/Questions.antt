@@ -1,4 +1,5 @@
 -- The insurer's questions about freeze protection, answered over all lists of rows from the reading. Assumes nothing.
+use Rattle.std.specs.Prelude.{Ok, Err}
 use Prim.Native.Nat.{ℕ}
 use mathlib.Core.Path.{◌≡◌, refl}
 use mathlib.Core.Bool.{Bool, true, false, not, ◌&&◌, ◌||◌, cond}
@@ -7,8 +8,7 @@ use lib.Dec.{T, eqb}
 use lib.Ieee.{Float, binary64, add, sub, lt, le, round, of_bits}
 use lib.Ieee.Fits.{and_l, and_r}
 use lib.Ieee.Scale.{finite}
-use Rattle.refusals.specs.declared.Verdict.{Verdict}
-use Rattle.refusals.specs.declared.Verdict.TheVariants.{Accepted, Refused}
+use Rattle.refusals.specs.Refusals.{Verdict}
 use Rattle.refusals.specs.Refusals.{judge}
 use Rattle.past.specs.Past.{some, every, since_with, since, row0, rises, latched}
 use Rattle.past.specs.Runs.{passed, gaps}
@@ -57,8 +57,8 @@ unfolding tripped accepted
 trip_ends x l e = go (verdict_of (accepted verdict_of l) x)
   where
     go : (v : Verdict) → latched stage3_call reset_row (next_by v (x ∷ accepted verdict_of l) (accepted verdict_of l)) ≡ not (is_accepted v && x.software_reset)
-    go Accepted = trip_step x (accepted verdict_of l) e
-    go (Refused r) = e
+    go (Ok tt) = trip_step x (accepted verdict_of l) e
+    go (Err r) = e
 
 -- a reset on the row of the rise loses that rise for as long as the call stays true
 pub rise_lost : (x : FreezeRow) (h : Past) → x.software_reset ≡ true → stage3_call (x ∷ h) ≡ true → (m : Past) → T (calling m (x ∷ h)) → latched stage3_call reset_row (m ++ (x ∷ h)) ≡ false
@@ -179,8 +179,8 @@ module _ (l : List FreezeRow) (two : stage_after l ≡ 2) (off : hold_after l �
       (released_after m (and_r (not (taken x (m ++ l)) || mild x) (mild_after m l) t))
     where
       by : (v : Verdict) → T (not (is_accepted v) || mild x) → Released (accepted verdict_of (m ++ l)) → Released (next_by v (x ∷ accepted verdict_of (m ++ l)) (accepted verdict_of (m ++ l)))
-      by Accepted t r = released_on x (accepted verdict_of (m ++ l)) t r
-      by (Refused c) t r = r
+      by (Ok tt) t r = released_on x (accepted verdict_of (m ++ l)) t r
+      by (Err c) t r = r
 
   -- after any rows l that leave stage 2 with its hold off, and any rows m of which the accepted ones are mild, it is stage 2
   pub stage_2_stands : (m : List FreezeRow) → T (mild_after m l) → stage_after (m ++ l) ≡ 2
@@ -220,7 +220,7 @@ unfolding seen_above
 not_earlier t [] l = le→not-lt t (whole 3900) l
 not_earlier t (u ∷ ts) l = le→not-lt t u l
 
-taken_278 : (t : Float) (ts : List Float) → T (is_time t) → T (le (newest_time ts) t) → verdict_of (rows_of278 ts ++ hour_dropped) (row_at t 27800) ≡ Accepted
+taken_278 : (t : Float) (ts : List Float) → T (is_time t) → T (le (newest_time ts) t) → verdict_of (rows_of278 ts ++ hour_dropped) (row_at t 27800) ≡ Ok tt
 unfolding verdict_after judge
 taken_278 t ts i l = rw (finite_278 t, is_true (finite t) (and_l (finite t) (not (is_sign_negative t)) i), sign_off (is_sign_negative t) (and_r (finite t) (not (is_sign_negative t)) i), not_earlier t ts l) refl
   where

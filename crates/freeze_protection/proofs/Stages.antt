@@ -8,7 +8,7 @@ use Rattle.freeze_protection.specs.declared.types.FreezeRow.{FreezeRow}
 use Rattle.freeze_protection.specs.declared.types.FreezeState.{FreezeState}
 use Rattle.freeze_protection.specs.declared.types.FreezeSignals.{FreezeSignals}
 use Rattle.freeze_protection.specs.Signals.{stage_number, freeze_signals}
-use Rattle.freeze_protection.specs.Commands.{integer_switch, freeze_commands}
+use Rattle.freeze_protection.specs.Commands.{freeze_commands}
 use Rattle.freeze_protection.specs.Stages.{StageThree, StageTwo}
 
 -- the latches behind a stage number
@@ -32,7 +32,7 @@ and_off false = refl
 
 module _ (row : FreezeRow) (signals : FreezeSignals) where
   three_commands : signals.lat1_y ≡ true → StageThree (freeze_commands row signals)
-  unfolding freeze_commands switch integer_switch
+  unfolding freeze_commands switch
   three_commands e = record {
     fan_off = rw e (and_off row.supply_fan_status);
     fan_speed = rw e refl;
@@ -45,12 +45,12 @@ module _ (row : FreezeRow) (signals : FreezeSignals) where
   }
 
   two_commands : signals.lat1_y ≡ false → signals.lat2_y ≡ true → StageTwo (freeze_commands row signals)
-  unfolding freeze_commands switch integer_switch
+  unfolding freeze_commands switch
   two_commands e f = record { outdoor_damper = rw (e, f) refl; minimum_outdoor_damper = rw (e, f) refl; return_damper = rw (e, f) refl; alarm = rw (e, f) refl }
 
   -- the hot water request is 2 while the stage 1 or the stage 3 latch is on, else 0
   pub hot_water : (freeze_commands row signals).hot_water_plant_request ≡ cond (signals.lat_y || signals.lat1_y) 2 0
-  unfolding freeze_commands integer_switch
+  unfolding freeze_commands switch
   hot_water = go signals.lat_y signals.lat1_y
     where
       go : (a b : Bool) → ◌≡◌ {A = ℕ} (cond b 2 (cond a 2 0)) (cond (a || b) 2 0)

@@ -6,10 +6,6 @@ use Rattle.freeze_protection.specs.declared.types.FreezeRow.{FreezeRow}
 use Rattle.freeze_protection.specs.declared.types.FreezeSignals.{FreezeSignals}
 use Rattle.freeze_protection.specs.declared.types.FreezeCommands.{FreezeCommands}
 
--- CDL.Integers.Switch: y = if u2 then u1 else u3
-unfoldable pub integer_switch : Bool → ℕ → ℕ → ℕ
-integer_switch u a b = cond u a b
-
 -- Each latch switches what the lower ones leave (document 01, 'Stage 3: fan off, ..'). That of stage 1: outdoor damper at its minimum position, heating coil by its loop,
 -- hot water request 2. Of stage 2: both outdoor dampers 0, return damper 1, alarm 3. Of stage 3: fan off, speed 0, all three dampers 0, cooling coil 1, pump on, heating
 -- coil by its own loop, hot water request 2, alarm 2. Else the inputs, with the pump off, no request and no alarm.
@@ -28,6 +24,6 @@ freeze_commands row signals =
       supply_fan_speed = switch three plus_zero row.supply_fan_speed;
       cooling_coil_command = switch three one row.cooling_coil;
       heating_coil_command = switch three signals.stage_3_heat (switch one' signals.stage_1_heat row.heating_coil);
-      hot_water_plant_request = integer_switch three 2 (integer_switch one' 2 0);
-      alarm_level = integer_switch three 2 (integer_switch two 3 0);
+      hot_water_plant_request = switch three 2 (switch one' 2 0);
+      alarm_level = switch three 2 (switch two 3 0);
     }

@@ -1,11 +1,10 @@
 -- The words of the insurer's questions about freeze protection, over all lists of rows: l is the list of all rows so far, refused ones too, the newest first.
-use Rattle.std.specs.Prelude.{ℕ, Bool, true, false, not, ◌&&◌, ◌||◌, List, [], ◌∷◌, ◌++◌, Float}
+use Rattle.std.specs.Prelude.{ℕ, Bool, true, false, not, ◌&&◌, ◌||◌, List, [], ◌∷◌, ◌++◌, Float, Ok, Err}
 use Rattle.std.specs.Float.{binary64}
 use Rattle.std.specs.Float.Ieee.{add, le, round}
 use Rattle.reals.specs.Constants.{plus_zero, whole}
 use Rattle.reals.specs.Sign.{is_time}
-use Rattle.refusals.specs.declared.Verdict.{Verdict}
-use Rattle.refusals.specs.declared.Verdict.TheVariants.{Accepted, Refused}
+use Rattle.refusals.specs.Refusals.{Verdict}
 use Rattle.past.specs.Past.{latched}
 use Rattle.past.specs.Whole.{accepted}
 use Rattle.freeze_protection.specs.declared.types.FreezeRow.{FreezeRow}
@@ -13,8 +12,8 @@ use Rattle.freeze_protection.specs.Constants.{cold_stage2, band}
 use Rattle.freeze_protection.specs.Reading.{Past, reset_row, holding, stage, stage3_call, verdict_of}
 
 abbrev pub is_accepted : Verdict → Bool
-is_accepted Accepted = true
-is_accepted (Refused r) = false
+is_accepted (Ok tt) = true
+is_accepted (Err r) = false
 
 -- a row is accepted after the rows l
 abbrev pub taken : FreezeRow → List FreezeRow → Bool

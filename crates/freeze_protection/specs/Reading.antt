@@ -4,7 +4,7 @@ use Rattle.std.specs.Float.{binary64}
 use Rattle.std.specs.Float.Ieee.{add, sub, lt}
 use Rattle.reals.specs.Constants.{plus_zero}
 use Rattle.logical.specs.declared.timer.TimerOutput.{TimerOutput}
-use Rattle.refusals.specs.declared.Verdict.{Verdict}
+use Rattle.refusals.specs.Refusals.{Verdict}
 use Rattle.past.specs.Past.{since, rises, latched}
 use Rattle.past.specs.Runs.{passed, held_timer}
 use Rattle.past.specs.Turns.{hold}

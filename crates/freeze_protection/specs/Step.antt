@@ -1,5 +1,5 @@
 -- A fresh state, the state after an accepted row, and a row: its commands and the next state, or its refusal and the old state.
-use Rattle.reals.specs.declared.seen.Seen.TheVariants.{Never, At}
+use Rattle.std.specs.Prelude.{None, Some, Result}
 use Rattle.reals.specs.Constants.{plus_zero}
 use Rattle.reals.specs.Threshold.{threshold_above, threshold_below, threshold_update}
 use Rattle.reals.specs.Pid.{pid_new, pid_update}
@@ -7,13 +7,14 @@ use Rattle.logical.specs.Edge.{edge_new, edge_update}
 use Rattle.logical.specs.Latch.{latch_new, latch_update}
 use Rattle.logical.specs.HeldTimer.{held_timer_new, held_timer_update}
 use Rattle.logical.specs.TrueFalseHold.{true_false_hold_new, true_false_hold_update}
-use Rattle.refusals.specs.declared.Verdict.{Verdict}
-use Rattle.refusals.specs.declared.Verdict.TheVariants.{Accepted, Refused}
+use Rattle.refusals.specs.declared.Refusal.{Refusal}
+use Rattle.refusals.specs.declared.step.Step.{Step}
+use Rattle.refusals.specs.Refusals.{Verdict}
+use Rattle.refusals.specs.Step.{stepped}
+use Rattle.freeze_protection.specs.declared.types.FreezeCommands.{FreezeCommands}
 use Rattle.freeze_protection.specs.declared.types.FreezeRow.{FreezeRow}
 use Rattle.freeze_protection.specs.declared.types.FreezeState.{FreezeState}
 use Rattle.freeze_protection.specs.declared.types.FreezeSignals.{FreezeSignals}
-use Rattle.freeze_protection.specs.declared.types.FreezeAnswer.TheVariants as Answer
-use Rattle.freeze_protection.specs.declared.types.FreezeStep.{FreezeStep}
 use Rattle.freeze_protection.specs.Constants.{cold_stage1, cold_stage2, cold_stage3, warm_level, band, five_minutes, fifteen_minutes, hour, stage1_setpoint, stage3_setpoint}
 use Rattle.freeze_protection.specs.Verdict.{freeze_verdict}
 use Rattle.freeze_protection.specs.Signals.{freeze_signals}
@@ -22,7 +23,7 @@ use Rattle.freeze_protection.specs.Commands.{freeze_commands}
 -- the blocks as FreezeProtection.mo parameterises them, before any row; the hold of stage 2 lasts an hour once on, and comes on at once
 unfoldable pub freeze_fresh : FreezeState
 freeze_fresh = record {
-  last = Never;
+  last = None;
   les_thr = threshold_below cold_stage1 band;
   tim = held_timer_new five_minutes;
   hea_coil_stage_1 = pid_new;
@@ -50,7 +51,7 @@ freeze_next state row signals =
     let supply = row.supply_air_temperature in
     let calls = signals.calls in
     record {
-      last = At t;
+      last = Some t;
       les_thr = threshold_update state.les_thr supply;
       tim = held_timer_update state.tim t calls.les_thr_y;
       hea_coil_stage_1 = pid_update state.hea_coil_stage_1 t stage1_setpoint supply;
@@ -71,10 +72,18 @@ freeze_next state row signals =
       end_sta_two = edge_update state.end_sta_two signals.tim5.passed;
     }
 
+-- a row's answer: the commands of an accepted row, or the refusal; and beside it the state for the next row
+abbrev pub FreezeAnswer : Type 0
+FreezeAnswer = Result FreezeCommands Refusal
+
+abbrev pub FreezeStep : Type 0
+FreezeStep = Step FreezeCommands FreezeState
+
 -- a row that is accepted has its commands and moves the state on; a refused one has the refusal, no command, and hands the old state back
 unfoldable pub step_by : Verdict → FreezeState → FreezeRow → FreezeStep
-step_by Accepted state row = let signals = freeze_signals state row in record { answer = Answer.Commands (freeze_commands row signals); state = freeze_next state row signals }
-step_by (Refused refusal) state row = record { answer = Answer.Refused refusal; state = state }
+step_by verdict state row =
+    let signals = freeze_signals state row in
+    stepped verdict (freeze_commands row signals) (freeze_next state row signals) state
 
 -- a row (document 01, 'What each row refuses'): what its verdict makes of it
 unfoldable pub freeze_row : FreezeState → FreezeRow → FreezeStep

@@ -1,16 +1,15 @@
 -- What a freeze row tells: its refusal, or its stage. The theorem of proofs/Demand3.antt is about a run of these.
-use Rattle.std.specs.Prelude.{ℕ}
+use Rattle.std.specs.Prelude.{ℕ, Ok, Err}
 use Rattle.past.specs.Whole.{Told, NotTaken, Taken}
 use Rattle.freeze_protection.specs.declared.types.FreezeRow.{FreezeRow}
 use Rattle.freeze_protection.specs.declared.types.FreezeState.{FreezeState}
-use Rattle.freeze_protection.specs.declared.types.FreezeAnswer.{FreezeAnswer}
-use Rattle.freeze_protection.specs.declared.types.FreezeAnswer.TheVariants as Answer
+use Rattle.freeze_protection.specs.Step.{FreezeAnswer}
 use Rattle.freeze_protection.specs.Step.{freeze_row}
 
 -- of an answer, the refusal or the stage
 abbrev pub stage_told : FreezeAnswer → Told ℕ
-stage_told (Answer.Commands c) = Taken c.freeze_protection_stage
-stage_told (Answer.Refused r) = NotTaken r
+stage_told (Ok c) = Taken c.freeze_protection_stage
+stage_told (Err r) = NotTaken r
 
 -- of a row handed to a state: what its answer tells, and the state that it returns
 abbrev pub freeze_told : FreezeState → FreezeRow → Told ℕ

@@ -1,17 +1,9 @@
 // The outputs of a row, worked from its signals: each latch switches what the one below it gives.
 ghost use Rattle.std.specs.Prelude.{◌≡◌};
-ghost use Rattle.freeze_protection.specs.Commands.{integer_switch, freeze_commands};
+ghost use Rattle.freeze_protection.specs.Commands.{freeze_commands};
 
 use crate::types::{FreezeCommands, FreezeRow, FreezeSignals};
 use reals::switch::switch;
-
-// CDL.Integers.Switch.
-#[tactic(auto, unfolding(crate::specs::Commands::integer_switch))]
-pub fn integer_switch(u: bool, a: u64, b: u64) -> u64
-    ensures { result ≡ integer_switch u a b }
-{
-    if u { a } else { b }
-}
 
 #[tactic(auto, unfolding(crate::specs::Commands::freeze_commands))]
 pub fn freeze_commands(row: FreezeRow, signals: FreezeSignals) -> FreezeCommands
@@ -20,19 +12,19 @@ pub fn freeze_commands(row: FreezeRow, signals: FreezeSignals) -> FreezeCommands
     let one = signals.lat_y;
     let two = signals.lat2_y;
     let three = signals.lat1_y;
-    let hot_water_stage_1 = integer_switch(one, 2, 0);
+    let hot_water_stage_1 = switch(one, 2, 0);
     let minimum_ventilation = switch(one, row.outdoor_damper_min_position, row.outdoor_damper);
     let heating_stage_1 = switch(one, signals.stage_1_heat, row.heating_coil);
     let outdoor_stage_2 = switch(two, 0.0, minimum_ventilation);
     let minimum_outdoor_stage_2 = switch(two, 0.0, row.minimum_outdoor_damper);
     let return_stage_2 = switch(two, 1.0, row.return_damper);
-    let alarm_stage_2 = integer_switch(two, 3, 0);
+    let alarm_stage_2 = switch(two, 3, 0);
     let supply_fan_speed = switch(three, 0.0, row.supply_fan_speed);
     let outdoor_damper = switch(three, 0.0, outdoor_stage_2);
     let cooling_coil = switch(three, 1.0, row.cooling_coil);
-    let hot_water_request = integer_switch(three, 2, hot_water_stage_1);
+    let hot_water_request = switch(three, 2, hot_water_stage_1);
     let heating_coil = switch(three, signals.stage_3_heat, heating_stage_1);
-    let alarm_level = integer_switch(three, 2, alarm_stage_2);
+    let alarm_level = switch(three, 2, alarm_stage_2);
     let minimum_outdoor_damper = switch(three, 0.0, minimum_outdoor_stage_2);
     let return_damper = switch(three, 0.0, return_stage_2);
     FreezeCommands {

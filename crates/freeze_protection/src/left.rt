@@ -9,19 +9,12 @@ use crate::types::{FreezeLeft, FreezeSignals, FreezeState};
 pub fn freeze_left(state: FreezeState, signals: FreezeSignals) -> FreezeLeft
     ensures { result ≡ freeze_left state signals }
 {
-    let calls = signals.calls;
-    let tim = calls.tim;
-    let tim1 = calls.tim1;
-    let tim2 = calls.tim2;
-    let tim3 = calls.tim3;
-    let tim4 = calls.tim4;
-    let tim5 = signals.tim5;
     FreezeLeft {
-        tim: tim.left(state.tim.threshold),
-        tim1: tim1.left(state.tim1.threshold),
-        tim2: tim2.left(state.tim2.threshold),
-        tim3: tim3.left(state.tim3.threshold),
-        tim4: tim4.left(state.tim4.threshold),
-        tim5: tim5.left(state.tim5.threshold),
+        tim: signals.calls.tim.left(state.tim.threshold),
+        tim1: signals.calls.tim1.left(state.tim1.threshold),
+        tim2: signals.calls.tim2.left(state.tim2.threshold),
+        tim3: signals.calls.tim3.left(state.tim3.threshold),
+        tim4: signals.calls.tim4.left(state.tim4.threshold),
+        tim5: signals.tim5.left(state.tim5.threshold),
     }
 }

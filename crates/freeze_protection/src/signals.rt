@@ -13,28 +13,17 @@ pub fn freeze_calls(state: FreezeState, row: FreezeRow) -> FreezeCalls
 {
     let t = row.time;
     let supply = row.supply_air_temperature;
-    let les_thr = state.les_thr;
-    let tim = state.tim;
-    let gre_thr = state.gre_thr;
-    let tim1 = state.tim1;
-    let end_sta_one = state.end_sta_one;
-    let les_thr1 = state.les_thr1;
-    let tim2 = state.tim2;
-    let hol_sta2 = state.hol_sta2;
-    let tim3 = state.tim3;
-    let les_thr2 = state.les_thr2;
-    let tim4 = state.tim4;
-    let les_thr_y = les_thr.output(supply);
-    let tim = tim.output(t, les_thr_y);
-    let gre_thr_y = gre_thr.output(supply);
-    let tim1 = tim1.output(t, gre_thr_y);
-    let end_sta_one_y = end_sta_one.output(tim1.passed);
-    let les_thr1_y = les_thr1.output(supply);
-    let tim2 = tim2.output(t, les_thr1_y);
-    let hol_sta2_y = hol_sta2.output(t, tim2.passed);
-    let tim3 = tim3.output(t, les_thr1_y);
-    let les_thr2_y = les_thr2.output(supply);
-    let tim4 = tim4.output(t, les_thr2_y);
+    let les_thr_y = state.les_thr.output(supply);
+    let tim = state.tim.output(t, les_thr_y);
+    let gre_thr_y = state.gre_thr.output(supply);
+    let tim1 = state.tim1.output(t, gre_thr_y);
+    let end_sta_one_y = state.end_sta_one.output(tim1.passed);
+    let les_thr1_y = state.les_thr1.output(supply);
+    let tim2 = state.tim2.output(t, les_thr1_y);
+    let hol_sta2_y = state.hol_sta2.output(t, tim2.passed);
+    let tim3 = state.tim3.output(t, les_thr1_y);
+    let les_thr2_y = state.les_thr2.output(supply);
+    let tim4 = state.tim4.output(t, les_thr2_y);
     FreezeCalls {
         les_thr_y,
         tim,
@@ -70,25 +59,20 @@ pub fn freeze_signals(state: FreezeState, row: FreezeRow) -> FreezeSignals
 {
     let t = row.time;
     let supply = row.supply_air_temperature;
-    let lat1 = state.lat1;
-    let tim5 = state.tim5;
-    let end_sta_two = state.end_sta_two;
-    let lat2 = state.lat2;
-    let lat = state.lat;
-    let hea_coil_stage_1 = state.hea_coil_stage_1;
-    let hea_coil_stage_3 = state.hea_coil_stage_3;
     let calls = freeze_calls(state, row);
     let or8_y = calls.tim3.passed | calls.tim4.passed;
-    let lat1_y = lat1.output(or8_y, row.software_reset);
-    let tim5 = tim5.output(t, calls.hol_sta2_y);
-    let end_sta_two_y = end_sta_two.output(tim5.passed);
-    let lat2_y = lat2.output(calls.hol_sta2_y, end_sta_two_y);
+    let lat1_y = state.lat1.output(or8_y, row.software_reset);
+    let tim5 = state.tim5.output(t, calls.hol_sta2_y);
+    let end_sta_two_y = state.end_sta_two.output(tim5.passed);
+    let lat2_y = state.lat2.output(calls.hol_sta2_y, end_sta_two_y);
     let or2_y = calls.tim.passed | end_sta_two_y;
-    let lat_y = lat.output(or2_y, calls.end_sta_one_y);
+    let lat_y = state.lat.output(or2_y, calls.end_sta_one_y);
     let stage = stage_number(lat1_y, lat2_y, lat_y);
-    let stage_1_heat = hea_coil_stage_1.output(STAGE_1_SETPOINT, supply);
+    let stage_1_heat = state.hea_coil_stage_1.output(STAGE_1_SETPOINT, supply);
     let stage_3_measurement = greater(supply, row.mixed_air_temperature);
-    let stage_3_heat = hea_coil_stage_3.output(STAGE_3_SETPOINT, stage_3_measurement);
+    let stage_3_heat = state
+        .hea_coil_stage_3
+        .output(STAGE_3_SETPOINT, stage_3_measurement);
     FreezeSignals {
         calls,
         or8_y,

@@ -8,16 +8,15 @@ use crate::constants::{
     STAGE_1_SETPOINT, STAGE_3_SETPOINT, WARM,
 };
 use crate::signals::freeze_signals;
-use crate::types::{FreezeAnswer, FreezeRow, FreezeSignals, FreezeState, FreezeStep};
+use crate::types::{FreezeRow, FreezeSignals, FreezeState, FreezeStep};
 use crate::verdict::freeze_verdict;
 use logical::edge::EdgeState;
 use logical::held_timer::HeldTimerState;
 use logical::latch::LatchState;
 use logical::true_false_hold::TrueFalseHoldState;
 use reals::pid::PidState;
-use reals::seen::Seen;
 use reals::threshold::ThresholdState;
-use refusals::Verdict;
+use refusals::step::step_by;
 
 // The state of a start, before any row.
 #[tactic(auto, unfolding(crate::specs::Step::freeze_fresh))]
@@ -25,7 +24,7 @@ pub fn freeze_fresh() -> FreezeState
     ensures { result ≡ freeze_fresh }
 {
     FreezeState {
-        last: Seen::Never,
+        last: None,
         les_thr: ThresholdState::below(COLD_STAGE_1, BAND),
         tim: HeldTimerState::new(FIVE_MINUTES),
         hea_coil_stage_1: PidState::new(),
@@ -54,45 +53,30 @@ pub fn freeze_next(state: FreezeState, row: FreezeRow, signals: FreezeSignals) -
 {
     let t = row.time;
     let supply = row.supply_air_temperature;
-    let calls = signals.calls;
-    let les_thr = state.les_thr;
-    let tim = state.tim;
-    let hea_coil_stage_1 = state.hea_coil_stage_1;
-    let gre_thr = state.gre_thr;
-    let lat = state.lat;
-    let tim1 = state.tim1;
-    let end_sta_one = state.end_sta_one;
-    let les_thr1 = state.les_thr1;
-    let tim2 = state.tim2;
-    let hol_sta2 = state.hol_sta2;
-    let tim3 = state.tim3;
-    let les_thr2 = state.les_thr2;
-    let tim4 = state.tim4;
-    let lat1 = state.lat1;
-    let hea_coil_stage_3 = state.hea_coil_stage_3;
-    let tim5 = state.tim5;
-    let lat2 = state.lat2;
-    let end_sta_two = state.end_sta_two;
     FreezeState {
-        last: Seen::At(t),
-        les_thr: les_thr.update(supply),
-        tim: tim.update(t, calls.les_thr_y),
-        hea_coil_stage_1: hea_coil_stage_1.update(t, STAGE_1_SETPOINT, supply),
-        gre_thr: gre_thr.update(supply),
-        lat: lat.update(signals.or2_y, calls.end_sta_one_y),
-        tim1: tim1.update(t, calls.gre_thr_y),
-        end_sta_one: end_sta_one.update(calls.tim1.passed),
-        les_thr1: les_thr1.update(supply),
-        tim2: tim2.update(t, calls.les_thr1_y),
-        hol_sta2: hol_sta2.update(t, calls.tim2.passed),
-        tim3: tim3.update(t, calls.les_thr1_y),
-        les_thr2: les_thr2.update(supply),
-        tim4: tim4.update(t, calls.les_thr2_y),
-        lat1: lat1.update(signals.or8_y, row.software_reset),
-        hea_coil_stage_3: hea_coil_stage_3.update(t, STAGE_3_SETPOINT, signals.stage_3_measurement),
-        tim5: tim5.update(t, calls.hol_sta2_y),
-        lat2: lat2.update(calls.hol_sta2_y, signals.end_sta_two_y),
-        end_sta_two: end_sta_two.update(signals.tim5.passed),
+        last: Some(t),
+        les_thr: state.les_thr.update(supply),
+        tim: state.tim.update(t, signals.calls.les_thr_y),
+        hea_coil_stage_1: state.hea_coil_stage_1.update(t, STAGE_1_SETPOINT, supply),
+        gre_thr: state.gre_thr.update(supply),
+        lat: state.lat.update(signals.or2_y, signals.calls.end_sta_one_y),
+        tim1: state.tim1.update(t, signals.calls.gre_thr_y),
+        end_sta_one: state.end_sta_one.update(signals.calls.tim1.passed),
+        les_thr1: state.les_thr1.update(supply),
+        tim2: state.tim2.update(t, signals.calls.les_thr1_y),
+        hol_sta2: state.hol_sta2.update(t, signals.calls.tim2.passed),
+        tim3: state.tim3.update(t, signals.calls.les_thr1_y),
+        les_thr2: state.les_thr2.update(supply),
+        tim4: state.tim4.update(t, signals.calls.les_thr2_y),
+        lat1: state.lat1.update(signals.or8_y, row.software_reset),
+        hea_coil_stage_3: state
+            .hea_coil_stage_3
+            .update(t, STAGE_3_SETPOINT, signals.stage_3_measurement),
+        tim5: state.tim5.update(t, signals.calls.hol_sta2_y),
+        lat2: state
+            .lat2
+            .update(signals.calls.hol_sta2_y, signals.end_sta_two_y),
+        end_sta_two: state.end_sta_two.update(signals.tim5.passed),
     }
 }
 
@@ -101,20 +85,11 @@ pub fn freeze_next(state: FreezeState, row: FreezeRow, signals: FreezeSignals) -
 pub fn freeze_row(state: FreezeState, row: FreezeRow) -> FreezeStep
     ensures { result ≡ freeze_row state row }
 {
-    let verdict = freeze_verdict(state, row);
-    // The old state stands until the row is accepted. A copy of its own in each case would make every row copy the unused bytes between the fields.
-    let mut next = state;
-    let answer = match verdict {
-        Verdict::Accepted => {
-            let signals = freeze_signals(state, row);
-            let commands = freeze_commands(row, signals);
-            next = freeze_next(state, row, signals);
-            FreezeAnswer::Commands(commands)
-        }
-        Verdict::Refused(refusal) => FreezeAnswer::Refused(refusal),
-    };
-    FreezeStep {
-        answer,
-        state: next,
-    }
+    step_by(freeze_verdict(state, row), state, || {
+        let signals = freeze_signals(state, row);
+        (
+            freeze_commands(row, signals),
+            freeze_next(state, row, signals),
+        )
+    })
 }

@@ -5,9 +5,9 @@ use logical::latch::LatchState;
 use logical::timer::TimerOutput;
 use logical::true_false_hold::TrueFalseHoldState;
 use reals::pid::PidState;
-use reals::seen::Seen;
 use reals::threshold::ThresholdState;
 use refusals::Refusal;
+use refusals::step::Step;
 
 // A sampled row: its time in seconds, and `Inputs`. Temperatures in kelvin, positions and speeds from 0 to 1.
 #[derive(Clone, Copy)]
@@ -29,7 +29,7 @@ pub struct FreezeRow {
 // The blocks of `freeze_protection_trace`, and the time of the last accepted row.
 #[derive(Clone, Copy)]
 pub struct FreezeState {
-    pub last: Seen,
+    pub last: Option<f64>,
     pub les_thr: ThresholdState,
     pub tim: HeldTimerState,
     pub hea_coil_stage_1: PidState,
@@ -112,15 +112,7 @@ pub struct FreezeCommands {
 }
 
 // A row's answer: the commands of an accepted row, or the refusal.
-#[derive(Clone, Copy)]
-pub enum FreezeAnswer {
-    Commands(FreezeCommands),
-    Refused(Refusal),
-}
+pub type FreezeAnswer = Result<FreezeCommands, Refusal>;
 
 // A row's answer, and the state for the next row.
-#[derive(Clone, Copy)]
-pub struct FreezeStep {
-    pub answer: FreezeAnswer,
-    pub state: FreezeState,
-}
+pub type FreezeStep = Step<FreezeCommands, FreezeState>;

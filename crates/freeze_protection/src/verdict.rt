@@ -28,7 +28,5 @@ pub fn numbers_finite(row: FreezeRow) -> bool
 pub fn freeze_verdict(state: FreezeState, row: FreezeRow) -> Verdict
     ensures { result ≡ freeze_verdict state row }
 {
-    let time = row.time;
-    let last = state.last;
-    judge(numbers_finite(row), time, last)
+    judge(numbers_finite(row), row.time, state.last)
 }

@@ -1,5 +1,6 @@
 -- The elapsed time of freeze protection's timer and of the relief group's beside that of `timer` of cdl_recurrences.rs; and what rounding does to the time that is left.
 -- Assumes nothing.
+use Rattle.std.specs.Prelude.{Option, None, Some}
 use mathlib.Core.Path.{◌≡◌, refl, sym, ap, ap₂, ◌∙◌}
 use mathlib.Core.Bool.{Bool, true, false, not, ◌&&◌, cond}
 use mathlib.Core.List.{List, [], ◌∷◌, map}
@@ -8,8 +9,6 @@ use Prim.Native.Nat.{ℕ}
 use lib.Ieee.{Float, nan, inf, binary64, sub, lt, eq, le, is_nan, round, of_bits}
 use lib.Ieee.Fits.{and_l, and_r}
 use lib.Ieee.Scale.{finite}
-use Rattle.reals.specs.declared.seen.Seen.{Seen}
-use Rattle.reals.specs.declared.seen.Seen.TheVariants.{Never, At}
 use Rattle.reals.specs.Constants.{plus_zero, whole}
 use Rattle.reals.specs.Order.{greater}
 use Rattle.reals.specs.Seen.{seen_elapsed}
@@ -17,7 +16,6 @@ use Rattle.reals.specs.Switch.{switch}
 use Rattle.reals.proofs.Times.{self_gap}
 use Rattle.logical.specs.declared.elapsed_timer.ElapsedTimerState.{ElapsedTimerState}
 use Rattle.logical.specs.declared.timer.TimerOutput.{TimerOutput}
-use Rattle.logical.specs.Switch.{logical_switch}
 use Rattle.logical.specs.Timer.{entry_time, elapsed_time, timer_output_left}
 use Rattle.logical.specs.ElapsedTimer.{elapsed_timer_new, elapsed_timer_output, elapsed_timer_update}
 use Rattle.logical.specs.HeldTimer.{held_timer_new, held_timer_output, held_timer_update}
@@ -31,7 +29,7 @@ pub timer_elapsed : (s : ElapsedTimerState) (t : Float) (u : Bool)
 unfolding elapsed_timer_output entry_time elapsed_time seen_elapsed switch
 timer_elapsed s t u = go u s.prev_u
   where
-    go : (a b : Bool) → seen_elapsed (cond a (cond b s.entry_time (At t)) Never) t ≡ cond (a && not b) (sub binary64 t t) (cond (a && b) (seen_elapsed s.entry_time t) plus_zero)
+    go : (a b : Bool) → seen_elapsed (cond a (cond b s.entry_time (Some t)) None) t ≡ cond (a && not b) (sub binary64 t t) (cond (a && b) (seen_elapsed s.entry_time t) plus_zero)
     go true true = refl
     go true false = refl
     go false b = refl
@@ -47,7 +45,7 @@ finite_elapsed s t u f = rw (timer_elapsed s t u, self_gap t f) (go u s.prev_u)
     go false b = refl
 
 -- a state with no entry, whatever else stands in it, has 0 elapsed seconds: a forged one too, with u true here and on the row before
-pub no_entry : (pre_u u : Bool) (t : Float) → elapsed_time Never pre_u t u ≡ plus_zero
+pub no_entry : (pre_u u : Bool) (t : Float) → elapsed_time None pre_u t u ≡ plus_zero
 unfolding elapsed_time seen_elapsed switch
 no_entry pre_u u t = go (u && pre_u)
   where
@@ -67,7 +65,7 @@ all_finite [] = true
 all_finite (x ∷ rows) = finite x.time && all_finite rows
 
 -- any block that works its elapsed time from its entry and pre(u), and moves both on as the timers do, gives over rows of finite times what `timer` gives
-module _ {S : Type 0} (elapsed : S → TimedInput → Float) (next : S → TimedInput → S) (entry : S → Seen) (pre_u : S → Bool)
+module _ {S : Type 0} (elapsed : S → TimedInput → Float) (next : S → TimedInput → S) (entry : S → Option Float) (pre_u : S → Bool)
     (elapsed_is : (s : S) (x : TimedInput) → elapsed s x ≡ elapsed_time (entry s) (pre_u s) x.time x.u)
     (entry_next : (s : S) (x : TimedInput) → entry (next s x) ≡ entry_time (entry s) (pre_u s) x.time x.u) (pre_next : (s : S) (x : TimedInput) → pre_u (next s x) ≡ x.u) where
   as_timer : (s : S) (rows : List TimedInput) → T (all_finite rows)
@@ -122,7 +120,7 @@ passes_early = at 2 10 true ∷ at 6 10 true ∷ at 3002 10 true ∷ []
 pub left_early :
     (marks (held_timer_run (whole 300) passes_early) ≡ false ∷ false ∷ true ∷ [])
     × ((eq (left_then (held_timer_run (whole 300) passes_early)) (tenths 2996) ≡ true) × (le (tenths 2996) (sub binary64 (tenths 3002) (tenths 6)) ≡ false))
-unfolding held_timer_run held_timer_new held_timer_output held_timer_update run entry_time elapsed_time timer_output_left logical_switch switch greater seen_elapsed lt eq le is_nan sub round of_bits
+unfolding held_timer_run held_timer_new held_timer_output held_timer_update run entry_time elapsed_time timer_output_left switch greater seen_elapsed lt eq le is_nan sub round of_bits
 left_early = (refl, (refl, refl))
 
 -- on since 212.3 s. At 212.4 s 299.9 s are left; at 512.3 s, which is 299.9 s later, the timer has not passed
@@ -132,5 +130,5 @@ passes_late = at 2123 10 true ∷ at 2124 10 true ∷ at 5123 10 true ∷ []
 pub left_late :
     (marks (held_timer_run (whole 300) passes_late) ≡ false ∷ false ∷ false ∷ [])
     × ((eq (left_then (held_timer_run (whole 300) passes_late)) (tenths 2999) ≡ true) × (le (tenths 2999) (sub binary64 (tenths 5123) (tenths 2124)) ≡ true))
-unfolding held_timer_run held_timer_new held_timer_output held_timer_update run entry_time elapsed_time timer_output_left logical_switch switch greater seen_elapsed lt eq le is_nan sub round of_bits
+unfolding held_timer_run held_timer_new held_timer_output held_timer_update run entry_time elapsed_time timer_output_left switch greater seen_elapsed lt eq le is_nan sub round of_bits
 left_late = (refl, (refl, refl))

@@ -1,13 +1,12 @@
 -- CDL.Logical.Timer, its output y: y = if u then time − entryTime else 0. `timer` of cdl_recurrences.rs.
-use Rattle.std.specs.Prelude.{Bool, false, Float}
-use Rattle.reals.specs.declared.seen.Seen.TheVariants.{Never}
+use Rattle.std.specs.Prelude.{Bool, false, Float, None}
 use Rattle.reals.specs.Seen.{seen_elapsed}
 use Rattle.logical.specs.declared.elapsed_timer.ElapsedTimerState.{ElapsedTimerState}
 use Rattle.logical.specs.Timer.{entry_time}
 
 -- no entry, and u false before the first row
 unfoldable pub elapsed_timer_new : ElapsedTimerState
-elapsed_timer_new = record { entry_time = Never; prev_u = false }
+elapsed_timer_new = record { entry_time = None; prev_u = false }
 
 -- time less the entry time of this row, so t − t where u rises; 0 where there is none
 unfoldable pub elapsed_timer_output : ElapsedTimerState → Float → Bool → Float

@@ -1,15 +1,13 @@
 -- The timer of stage 2's hour, in either manner: CDL.Logical.Timer as freeze_protection.rs has it (the held timer), which stops when u falls; or one that runs on
 -- (document 02, job 4; no block of the CDL), which counts from the last rise of u whatever u does since.
-use Rattle.std.specs.Prelude.{Bool, true, not, ◌&&◌, ◌||◌, cond, Float}
+use Rattle.std.specs.Prelude.{Bool, true, not, ◌&&◌, ◌||◌, cond, Float, Some}
 use Rattle.std.specs.Float.Ieee.{le}
-use Rattle.reals.specs.declared.seen.Seen.TheVariants.{At}
 use Rattle.reals.specs.Constants.{plus_zero}
 use Rattle.reals.specs.Seen.{seen_elapsed}
 use Rattle.reals.specs.Switch.{switch}
 use Rattle.logical.specs.declared.held_timer.HeldTimerState.{HeldTimerState}
 use Rattle.logical.specs.declared.hour_timer.HourTimerState.{HourTimerState}
 use Rattle.logical.specs.declared.timer.TimerOutput.{TimerOutput}
-use Rattle.logical.specs.Switch.{logical_switch}
 use Rattle.logical.specs.HeldTimer.{held_timer_new, held_timer_output, held_timer_update}
 
 -- ---- the timer that runs on; its fields are those of the held timer
@@ -19,13 +17,13 @@ unfoldable pub run_on_timer_output : HeldTimerState → Float → Bool → Timer
 run_on_timer_output s t u =
     let rises = u && not s.prev_u in
     let elapsed = switch rises plus_zero (seen_elapsed s.entry_time t) in
-    record { passed = logical_switch rises (le s.threshold plus_zero) (logical_switch (le s.threshold elapsed) true s.passed); elapsed = elapsed }
+    record { passed = switch rises (le s.threshold plus_zero) (switch (le s.threshold elapsed) true s.passed); elapsed = elapsed }
 
 -- the time of the last rise, and the mark of this row; u becomes pre(u)
 unfoldable pub run_on_timer_update : HeldTimerState → Float → Bool → HeldTimerState
 run_on_timer_update s t u = record {
   threshold = s.threshold;
-  entry_time = cond (u && not s.prev_u) (At t) s.entry_time;
+  entry_time = cond (u && not s.prev_u) (Some t) s.entry_time;
   prev_u = u;
   passed = (run_on_timer_output s t u).passed;
 }

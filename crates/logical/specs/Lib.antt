@@ -1,5 +1,4 @@
 -- The definitions of `logical`, one module for each of src/, and a run over a list of rows.
-pub mod Switch
 pub mod Edge
 pub mod Latch
 pub mod Pre

@@ -1,14 +1,13 @@
 -- The timer of relief_fan_group.rs, `TimerState`. It differs from CDL.Logical.Timer: a pass is not held, and the row on which u rises never passes.
-use Rattle.std.specs.Prelude.{Bool, false, ◌&&◌, Float}
+use Rattle.std.specs.Prelude.{Bool, false, ◌&&◌, Float, None}
 use Rattle.std.specs.Float.Ieee.{le}
-use Rattle.reals.specs.declared.seen.Seen.TheVariants.{Never}
 use Rattle.logical.specs.declared.present_timer.PresentTimerState.{PresentTimerState}
 use Rattle.logical.specs.declared.timer.TimerOutput.{TimerOutput}
 use Rattle.logical.specs.Timer.{entry_time, elapsed_time}
 
 -- no entry, and u false before the first row
 unfoldable pub present_timer_new : Float → PresentTimerState
-present_timer_new threshold = record { threshold = threshold; entry_time = Never; prev_u = false }
+present_timer_new threshold = record { threshold = threshold; entry_time = None; prev_u = false }
 
 -- passed: u is true here and at the row before, and the elapsed time here is the threshold or more. Beside it the elapsed time
 unfoldable pub present_timer_output : PresentTimerState → Float → Bool → TimerOutput

@@ -1,21 +1,19 @@
 -- CDL.Logical.TrueFalseHold: an output that has changed is held for a duration. `TrueFalseHoldState` of freeze_protection.rs, and, with 600 s both
 -- ways, of economizer_controller.rs. Both measure the duration by the gaps between rows, added in order, and not by a difference of two times.
-use Rattle.std.specs.Prelude.{Bool, false, not, ◌&&◌, ◌||◌, Float}
+use Rattle.std.specs.Prelude.{Bool, false, not, ◌&&◌, ◌||◌, Float, None, Some, is_none}
 use Rattle.std.specs.Bool.{beq}
 use Rattle.std.specs.Float.{binary64}
 use Rattle.std.specs.Float.Ieee.{add, le}
-use Rattle.reals.specs.declared.seen.Seen.TheVariants.{Never, At}
 use Rattle.reals.specs.Constants.{plus_zero}
 use Rattle.reals.specs.Order.{greater}
-use Rattle.reals.specs.Seen.{seen_never, seen_gap}
+use Rattle.reals.specs.Seen.{seen_gap}
 use Rattle.reals.specs.Switch.{switch}
 use Rattle.logical.specs.declared.true_false_hold.TrueFalseHoldState.{TrueFalseHoldState}
 use Rattle.logical.specs.declared.true_false_hold.TrueFalseHoldOutput.{TrueFalseHoldOutput}
-use Rattle.logical.specs.Switch.{logical_switch}
 
 -- no row seen, with trueHoldDuration and falseHoldDuration
 unfoldable pub true_false_hold_new : Float → Float → TrueFalseHoldState
-true_false_hold_new trueFor falseFor = record { held = false; timer = plus_zero; prev_t = Never; true_hold_duration = trueFor; false_hold_duration = falseFor }
+true_false_hold_new trueFor falseFor = record { held = false; timer = plus_zero; prev_t = None; true_hold_duration = trueFor; false_hold_duration = falseFor }
 
 -- how long the output must have stood before it may change: trueHoldDuration where it is true, falseHoldDuration where it is false, below 0 as 0
 unfoldable pub true_false_hold_required : TrueFalseHoldState → Float
@@ -26,8 +24,8 @@ true_false_hold_required s = greater (switch s.held s.true_hold_duration s.false
 unfoldable pub true_false_hold_output_and_timer : TrueFalseHoldState → Float → Bool → TrueFalseHoldOutput
 true_false_hold_output_and_timer s t u =
     let timer = add binary64 s.timer (seen_gap s.prev_t t) in
-    let changes = seen_never s.prev_t || (not (beq u s.held) && le (true_false_hold_required s) timer) in
-    record { y = logical_switch changes u s.held; timer = switch changes plus_zero timer }
+    let changes = is_none s.prev_t || (not (beq u s.held) && le (true_false_hold_required s) timer) in
+    record { y = switch changes u s.held; timer = switch changes plus_zero timer }
 
 -- the output alone
 unfoldable pub true_false_hold_output : TrueFalseHoldState → Float → Bool → Bool
@@ -37,4 +35,4 @@ true_false_hold_output s t u = (true_false_hold_output_and_timer s t u).y
 unfoldable pub true_false_hold_update : TrueFalseHoldState → Float → Bool → TrueFalseHoldState
 true_false_hold_update s t u =
     let next = true_false_hold_output_and_timer s t u in
-    record { held = next.y; timer = next.timer; prev_t = At t; true_hold_duration = s.true_hold_duration; false_hold_duration = s.false_hold_duration }
+    record { held = next.y; timer = next.timer; prev_t = Some t; true_hold_duration = s.true_hold_duration; false_hold_duration = s.false_hold_duration }

@@ -9,6 +9,7 @@ pub struct EdgeState {
 
 impl EdgeState {
     // Before the first row the input counts as false.
+    #[tactic(auto, unfolding(crate::specs::Edge::edge_new))]
     pub fn new() -> Self
         ensures { result ≡ edge_new }
     {
@@ -16,12 +17,14 @@ impl EdgeState {
     }
 
     // True at a row where u is true and was false before.
+    #[tactic(auto, unfolding(crate::specs::Edge::edge_output))]
     pub fn output(self, u: bool) -> bool
         ensures { result ≡ edge_output self u }
     {
         u & !self.previous
     }
 
+    #[tactic(auto, unfolding(crate::specs::Edge::edge_update))]
     pub fn update(mut self, u: bool) -> Self
         ensures { result ≡ edge_update self u }
     {

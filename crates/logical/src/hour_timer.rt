@@ -5,24 +5,24 @@ ghost use Rattle.logical.specs.HourTimer.{hour_timer_new, hour_timer_held, hour_
 
 use crate::held_timer::HeldTimerState;
 use crate::timer::TimerOutput;
-use reals::seen::Seen;
 
 #[derive(Clone, Copy)]
 pub struct HourTimerState {
     pub threshold: f64,
-    pub entry_time: Seen,
+    pub entry_time: Option<f64>,
     pub prev_u: bool,
     pub passed: bool,
     pub runs_on: bool,
 }
 
 impl HourTimerState {
+    #[tactic(auto, unfolding(crate::specs::HourTimer::hour_timer_new, crate::specs::HeldTimer::held_timer_new))]
     pub fn new(threshold: f64, runs_on: bool) -> Self
         ensures { result ≡ hour_timer_new threshold runs_on }
     {
         HourTimerState {
             threshold,
-            entry_time: Seen::Never,
+            entry_time: None,
             prev_u: false,
             passed: threshold <= 0.0,
             runs_on,
@@ -30,41 +30,36 @@ impl HourTimerState {
     }
 
     // The held timer that answers for it: where it runs on, one whose input stays on and rises where u does.
+    #[tactic(auto, unfolding(crate::specs::HourTimer::hour_timer_held))]
     fn held(self, u: bool) -> HeldTimerState
         ensures { result ≡ hour_timer_held self u }
     {
-        let threshold = self.threshold;
-        let entry = self.entry_time;
         HeldTimerState {
-            threshold,
-            entry_time: entry,
+            threshold: self.threshold,
+            entry_time: self.entry_time,
             prev_u: self.prev_u | (self.runs_on & !u),
             passed: self.passed,
         }
     }
 
+    #[tactic(auto, using(crate::proofs::Manners::output_is))]
     pub fn output(self, t: f64, u: bool) -> TimerOutput
         ensures { result ≡ hour_timer_output self t u }
     {
-        let held = self.held(u);
-        held.output(t, u | self.runs_on)
+        self.held(u).output(t, u | self.runs_on)
     }
 
+    #[tactic(auto, using(crate::proofs::Manners::update_is))]
     pub fn update(mut self, t: f64, u: bool) -> Self
         ensures { result ≡ hour_timer_update self t u }
     {
-        let runs_on = self.runs_on;
-        let held = self.held(u);
-        let next = held.update(t, u | runs_on);
-        let threshold = next.threshold;
-        let entry = next.entry_time;
-        let passed = next.passed;
+        let next = self.held(u).update(t, u | self.runs_on);
         HourTimerState {
-            threshold,
-            entry_time: entry,
+            threshold: next.threshold,
+            entry_time: next.entry_time,
             prev_u: u,
-            passed,
-            runs_on,
+            passed: next.passed,
+            runs_on: self.runs_on,
         }
     }
 }

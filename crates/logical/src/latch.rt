@@ -10,6 +10,7 @@ pub struct LatchState {
 
 impl LatchState {
     // Not held; before the first row the input counts as false.
+    #[tactic(auto, unfolding(crate::specs::Latch::latch_new))]
     pub fn new() -> Self
         ensures { result ≡ latch_new }
     {
@@ -20,6 +21,7 @@ impl LatchState {
     }
 
     // Set where u rises, kept, and off while clear is true: clear wins.
+    #[tactic(auto, unfolding(crate::specs::Latch::latch_output))]
     pub fn output(self, u: bool, clear: bool) -> bool
         ensures { result ≡ latch_output self u clear }
     {

@@ -2,7 +2,6 @@
 // struct made anew from them: a copy of the one that came in would copy those bytes too, at every row.
 #![tactic(auto)]
 
-pub mod switch; // CDL.Logical.Switch
 pub mod edge; // CDL.Logical.Edge
 pub mod latch; // CDL.Logical.Latch
 pub mod pre; // CDL.Logical.Pre

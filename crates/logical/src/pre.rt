@@ -8,6 +8,7 @@ pub struct PreState {
 }
 
 impl PreState {
+    #[tactic(auto, unfolding(crate::specs::Pre::pre_new))]
     pub fn new(y_start: bool) -> Self
         ensures { result ≡ pre_new y_start }
     {
@@ -15,12 +16,14 @@ impl PreState {
     }
 
     // The input of the row before; y_start on the first row.
+    #[tactic(auto, unfolding(crate::specs::Pre::pre_output))]
     pub fn output(self) -> bool
         ensures { result ≡ pre_output self }
     {
         self.previous
     }
 
+    #[tactic(auto, unfolding(crate::specs::Pre::pre_update))]
     pub fn update(mut self, input: bool) -> Self
         ensures { result ≡ pre_update self input }
     {

@@ -3,22 +3,22 @@ ghost use Rattle.std.specs.Prelude.{◌≡◌};
 ghost use Rattle.logical.specs.PresentTimer.{present_timer_new, present_timer_output, present_timer_update};
 
 use crate::timer::{TimerOutput, elapsed_time, entry_time};
-use reals::seen::Seen;
 
 #[derive(Clone, Copy)]
 pub struct PresentTimerState {
     pub threshold: f64,
-    pub entry_time: Seen,
+    pub entry_time: Option<f64>,
     pub prev_u: bool,
 }
 
 impl PresentTimerState {
+    #[tactic(auto, unfolding(crate::specs::PresentTimer::present_timer_new))]
     pub fn new(threshold: f64) -> Self
         ensures { result ≡ present_timer_new threshold }
     {
         PresentTimerState {
             threshold,
-            entry_time: Seen::Never,
+            entry_time: None,
             prev_u: false,
         }
     }
@@ -28,8 +28,7 @@ impl PresentTimerState {
     pub fn output(self, t: f64, u: bool) -> TimerOutput
         ensures { result ≡ present_timer_output self t u }
     {
-        let entry = self.entry_time;
-        let elapsed = elapsed_time(entry, self.prev_u, t, u);
+        let elapsed = elapsed_time(self.entry_time, self.prev_u, t, u);
         TimerOutput {
             passed: u & self.prev_u & (elapsed >= self.threshold),
             elapsed,
@@ -40,12 +39,9 @@ impl PresentTimerState {
     pub fn update(mut self, t: f64, u: bool) -> Self
         ensures { result ≡ present_timer_update self t u }
     {
-        let threshold = self.threshold;
-        let before = self.entry_time;
-        let entry = entry_time(before, self.prev_u, t, u);
         PresentTimerState {
-            threshold,
-            entry_time: entry,
+            threshold: self.threshold,
+            entry_time: entry_time(self.entry_time, self.prev_u, t, u),
             prev_u: u,
         }
     }

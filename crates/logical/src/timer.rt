@@ -3,7 +3,7 @@ ghost use Rattle.std.specs.Prelude.{◌≡◌};
 ghost use Rattle.logical.specs.Timer.{entry_time, elapsed_time, timer_output_left};
 
 use reals::order::greater;
-use reals::seen::Seen;
+use reals::seen::elapsed;
 use reals::switch::switch;
 
 // A timer's answer at a row, CDL.Logical.Timer's passed and y: whether its time has passed, and the seconds since its input became true.
@@ -15,6 +15,7 @@ pub struct TimerOutput {
 
 impl TimerOutput {
     // The seconds left until a timer with this threshold passes: the threshold less the elapsed time, not below 0, and 0 once it has passed.
+    #[tactic(auto, unfolding(crate::specs::Timer::timer_output_left))]
     pub fn left(self, threshold: f64) -> f64
         ensures { result ≡ timer_output_left self threshold }
     {
@@ -24,25 +25,26 @@ impl TimerOutput {
 
 // The time at which the input became true, at a row with input u at t; Never while it is false.
 #[tactic(auto, unfolding(crate::specs::Timer::entry_time))]
-pub fn entry_time(entry: Seen, prev_u: bool, t: f64, u: bool) -> Seen
+pub fn entry_time(entry: Option<f64>, prev_u: bool, t: f64, u: bool) -> Option<f64>
     ensures { result ≡ entry_time entry prev_u t u }
 {
     if !u {
-        return Seen::Never;
+        return None;
     }
     if !prev_u {
-        return Seen::At(t);
+        return Some(t);
     }
     // The time that is kept, made anew: `entry` itself would hand on the unused bytes beside its mark too.
     match entry {
-        Seen::Never => Seen::Never,
-        Seen::At(p) => Seen::At(p),
+        None => None,
+        Some(p) => Some(p),
     }
 }
 
 // The time since the input became true; 0 where it is false or has just risen.
-pub fn elapsed_time(entry: Seen, prev_u: bool, t: f64, u: bool) -> f64
+#[tactic(auto, unfolding(crate::specs::Timer::elapsed_time))]
+pub fn elapsed_time(entry: Option<f64>, prev_u: bool, t: f64, u: bool) -> f64
     ensures { result ≡ elapsed_time entry prev_u t u }
 {
-    switch(u & prev_u, entry.elapsed(t), 0.0)
+    switch(u & prev_u, elapsed(entry, t), 0.0)
 }

@@ -2,16 +2,15 @@
 ghost use Rattle.std.specs.Prelude.{◌≡◌};
 ghost use Rattle.logical.specs.TrueFalseHold.{true_false_hold_new, true_false_hold_output_and_timer, true_false_hold_output, true_false_hold_update};
 
-use crate::switch::logical_switch;
 use reals::order::greater;
-use reals::seen::Seen;
+use reals::seen::gap;
 use reals::switch::switch;
 
 #[derive(Clone, Copy)]
 pub struct TrueFalseHoldState {
     pub held: bool,
     pub timer: f64,
-    pub prev_t: Seen,
+    pub prev_t: Option<f64>,
     pub true_hold_duration: f64,
     pub false_hold_duration: f64,
 }
@@ -23,13 +22,14 @@ pub struct TrueFalseHoldOutput {
 }
 
 impl TrueFalseHoldState {
+    #[tactic(auto, unfolding(crate::specs::TrueFalseHold::true_false_hold_new))]
     pub fn new(true_hold_duration: f64, false_hold_duration: f64) -> Self
         ensures { result ≡ true_false_hold_new true_hold_duration false_hold_duration }
     {
         TrueFalseHoldState {
             held: false,
             timer: 0.0,
-            prev_t: Seen::Never,
+            prev_t: None,
             true_hold_duration,
             false_hold_duration,
         }
@@ -40,15 +40,13 @@ impl TrueFalseHoldState {
     pub fn output_and_timer(self, t: f64, u: bool) -> TrueFalseHoldOutput
         ensures { result ≡ true_false_hold_output_and_timer self t u }
     {
-        let prev_t = self.prev_t;
-        let first = prev_t.never();
-        let gap = prev_t.gap(t);
-        let timer = self.timer + gap;
+        let first = self.prev_t.is_none();
+        let timer = self.timer + gap(self.prev_t, t);
         let duration = switch(self.held, self.true_hold_duration, self.false_hold_duration);
         let required = greater(duration, 0.0);
         let changes = first | ((u != self.held) & (timer >= required));
         TrueFalseHoldOutput {
-            y: logical_switch(changes, u, self.held),
+            y: switch(changes, u, self.held),
             timer: switch(changes, 0.0, timer),
         }
     }
@@ -64,15 +62,13 @@ impl TrueFalseHoldState {
     pub fn update(mut self, t: f64, u: bool) -> Self
         ensures { result ≡ true_false_hold_update self t u }
     {
-        let true_hold_duration = self.true_hold_duration;
-        let false_hold_duration = self.false_hold_duration;
         let next = self.output_and_timer(t, u);
         TrueFalseHoldState {
             held: next.y,
             timer: next.timer,
-            prev_t: Seen::At(t),
-            true_hold_duration,
-            false_hold_duration,
+            prev_t: Some(t),
+            true_hold_duration: self.true_hold_duration,
+            false_hold_duration: self.false_hold_duration,
         }
     }
 }

@@ -12,7 +12,7 @@ use lib.Ieee.Fits.{down_pos, up_pos}
 use lib.Ieee.Scale.{finite}
 use Rattle.reals.specs.Constants.{plus_zero, whole}
 use Rattle.reals.specs.Order.{greater}
-use Rattle.reals.specs.Seen.{seen_never, seen_elapsed}
+use Rattle.reals.specs.Seen.{seen_elapsed}
 use Rattle.reals.specs.Sign.{is_sign_negative}
 use Rattle.reals.specs.Switch.{switch}
 use Rattle.reals.proofs.FloatOrder.{lt_le, not-lt→le}
@@ -85,12 +85,12 @@ unfolding of_bits
 zero_finite = tt
 
 pub first_mean : (t u : Float) → T (finite t) → T (finite u) → moving_average_output moving_average_new t u ≡ plus_zero
-unfolding moving_average_output moving_average_new start_time mu_now seen_never seen_elapsed held zip_with drop_old integral_at
+unfolding moving_average_output moving_average_new start_time mu_now seen_elapsed held zip_with drop_old integral_at
 first_mean t u a b = rw (first_mu u b, self_gap plus_zero zero_finite) (zero_quotient (averaged_time t t t) (first_above t a))
 
 -- ---- R2: second row, 15 s later, pressure 18
 pub second_mean : (u : Float) → T (finite u) → moving_average_output (moving_average_update moving_average_new (whole 0) u) (whole 15) (whole 18) ≡ div binary64 (whole 270) (add binary64 (whole 15) start_offset)
-unfolding moving_average_output moving_average_update moving_average_stored moving_average_new moving_average_is_full start_time mu_now seen_never seen_elapsed
+unfolding moving_average_output moving_average_update moving_average_stored moving_average_new moving_average_is_full start_time mu_now seen_elapsed
 second_mean u h =
     rw (first_mu u h)
     (unfold held written zip_with drop_old ends_at store same_time is_sign_negative integral_at integral_after on_line averaged_time greater add sub sum neg mul div le lt eq round of_bits in refl)

@@ -1,14 +1,12 @@
 -- CDL.Reals.MovingAverage with delta = 300 s, sampled at the rows: `MovingAverageState` of relief_fan_group.rs. The window's points stand in two arrays of 512
 -- with a count (document 01, 'What changes shape').
-use Rattle.std.specs.Prelude.{Bool, not, ◌&&◌, ◌||◌, cond, eqb, ltb, length, take, drop, replicate, Float}
+use Rattle.std.specs.Prelude.{Bool, not, ◌&&◌, ◌||◌, cond, eqb, ltb, length, take, drop, replicate, Float, Option, None, Some, is_none}
 use mathlib.Core.List.{List, [], ◌∷◌, ◌++◌, map, zip_with}
 use Rattle.std.specs.Float.{binary64}
 use Rattle.std.specs.Float.Ieee.{add, sub, mul, div, le}
 use Rattle.reals.specs.Constants.{plus_zero}
 use Rattle.reals.specs.Order.{greater}
-use Rattle.reals.specs.Seen.{seen_never, seen_elapsed}
-use Rattle.reals.specs.declared.seen.Seen.{Seen}
-use Rattle.reals.specs.declared.seen.Seen.TheVariants.{Never, At}
+use Rattle.reals.specs.Seen.{seen_elapsed}
 use Rattle.moving_average.specs.declared.state.MovingAverageState.{MovingAverageState}
 use Rattle.moving_average.specs.Constants.{delta, min_delta, start_offset, capacity}
 use Rattle.moving_average.specs.Window.{Point, point, drop_old, ends_at, store}
@@ -27,11 +25,11 @@ written new old = new ++ drop (length new) old
 -- ---- the mean
 
 -- the time of the first row, which this one is where none was before
-unfoldable pub start_time : Seen → Float → Float → Float
-start_time prev start t = cond (seen_never prev) t start
+unfoldable pub start_time : Option Float → Float → Float → Float
+start_time prev start t = cond (is_none prev) t start
 
 -- the integral up to t: the input counts for the time since the row before. `mu_now`
-unfoldable pub mu_now : Seen → Float → Float → Float → Float
+unfoldable pub mu_now : Option Float → Float → Float → Float → Float
 mu_now prev mu t input = add binary64 mu (mul binary64 input (seen_elapsed prev t))
 
 -- delta before t: where the averaged time begins, and old points end
@@ -73,7 +71,7 @@ moving_average_stored s t input =
     let window = store (point t mu) (drop_old (cutoff t) (held s)) in
     record {
       t_start = start_time s.prev_t s.t_start t;
-      prev_t = At t;
+      prev_t = Some t;
       mu = mu;
       times = written (map (λ p. p.time) window) s.times;
       integrals = written (map (λ p. p.integral) window) s.integrals;
@@ -87,4 +85,4 @@ moving_average_update s t input = cond (moving_average_is_full s t) s (moving_av
 -- before row 0: no points
 unfoldable pub moving_average_new : MovingAverageState
 moving_average_new =
-    record { t_start = plus_zero; prev_t = Never; mu = plus_zero; times = replicate capacity plus_zero; integrals = replicate capacity plus_zero; count = 0 }
+    record { t_start = plus_zero; prev_t = None; mu = plus_zero; times = replicate capacity plus_zero; integrals = replicate capacity plus_zero; count = 0 }

@@ -7,13 +7,13 @@ use crate::integral::mu_at;
 use crate::state::MovingAverageState;
 use crate::window::{ends_at, old_points, put, slot};
 use reals::order::greater;
-use reals::seen::Seen;
+use reals::seen::elapsed;
 
 // The fields of `MovingAverageState` but its arrays.
 #[derive(Clone, Copy)]
 pub struct Integrator {
     pub t_start: f64,
-    pub prev_t: Seen,
+    pub prev_t: Option<f64>,
     pub mu: f64,
     pub count: usize,
 }
@@ -24,16 +24,18 @@ impl Integrator {
     fn start(self, t: f64) -> f64
         ensures { result ≡ start_time self.prev_t self.t_start t }
     {
-        let prev = self.prev_t;
-        if prev.never() { t } else { self.t_start }
+        if self.prev_t.is_none() {
+            t
+        } else {
+            self.t_start
+        }
     }
 
     // The integral up to t.
     fn mu_now(self, t: f64, input: f64) -> f64
         ensures { result ≡ mu_now self.prev_t self.mu t input }
     {
-        let prev = self.prev_t;
-        self.mu + input * prev.elapsed(t)
+        self.mu + input * elapsed(self.prev_t, t)
     }
 
     // How many points the arrays hold.
@@ -112,7 +114,7 @@ impl Integrator {
         put(integrals, k, j, mu);
         Integrator {
             t_start: start,
-            prev_t: Seen::At(t),
+            prev_t: Some(t),
             mu: mu,
             count: j + 1,
         }

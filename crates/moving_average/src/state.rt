@@ -4,13 +4,12 @@ ghost use Rattle.moving_average.specs.Lent.{joined};
 ghost use Rattle.moving_average.specs.State.{moving_average_new, moving_average_output, moving_average_is_full, moving_average_update};
 
 use crate::lent::Integrator;
-use reals::seen::Seen;
 
 // The points of the window are the first `count` entries of `times` and `integrals`, oldest first.
 #[derive(Clone, Copy)]
 pub struct MovingAverageState {
     pub t_start: f64,
-    pub prev_t: Seen,
+    pub prev_t: Option<f64>,
     pub mu: f64,
     pub times: [f64; 512],
     pub integrals: [f64; 512],
@@ -31,10 +30,9 @@ impl MovingAverageState {
     pub fn integrator(self) -> Integrator
         ensures { joined result self.times self.integrals ≡ self }
     {
-        let prev = self.prev_t;
         Integrator {
             t_start: self.t_start,
-            prev_t: prev,
+            prev_t: self.prev_t,
             mu: self.mu,
             count: self.count,
         }
@@ -46,7 +44,7 @@ impl MovingAverageState {
     {
         Self {
             t_start: 0.0,
-            prev_t: Seen::Never,
+            prev_t: None,
             mu: 0.0,
             times: [0.0; 512],
             integrals: [0.0; 512],
@@ -78,10 +76,9 @@ impl MovingAverageState {
         let mut integrals = self.integrals;
         let s = self.integrator();
         let next = s.update(&mut times, &mut integrals, t, input);
-        let prev = next.prev_t;
         Self {
             t_start: next.t_start,
-            prev_t: prev,
+            prev_t: next.prev_t,
             mu: next.mu,
             times: times,
             integrals: integrals,

@@ -5,7 +5,7 @@ use mathlib.Core.List.{List, [], ◌∷◌}
 use lib.Dec.{T}
 use lib.Ieee.{Float, binary64, add, sub, le}
 use Rattle.reals.specs.Constants.{plus_zero}
-use Rattle.reals.specs.Seen.{seen_never, seen_gap}
+use Rattle.reals.specs.Seen.{seen_gap}
 use Rattle.reals.specs.Switch.{switch}
 use Rattle.logical.specs.declared.true_delay.TrueDelayState.{TrueDelayState}
 use Rattle.logical.specs.TrueDelay.{true_delay_new, true_delay_next_timer, true_delay_output, true_delay_update}
@@ -25,7 +25,7 @@ module _ {A : Type 0} (time : A → Float) (n : Float) (u : List A → Bool) (e 
   true_delay_new_lem = rw (e, delayed_none time u e n) refl
 
   pub true_delay_output_lem : (x : A) (h : List A) → T (in_order time (x ∷ h)) → true_delay_output (true_delay_of h) (time x) (u (x ∷ h)) n ≡ delayed time n u (x ∷ h)
-  unfolding true_delay_output true_delay_next_timer switch seen_never seen_gap
+  unfolding true_delay_output true_delay_next_timer switch seen_gap
   true_delay_output_lem x [] o = rw (delayed_step time u e n positive x []) refl
   true_delay_output_lem x (z ∷ h) o = rw (delayed_step time u e n positive x (z ∷ h), gap_here time x z h o) (go (u (x ∷ (z ∷ h))) (u (z ∷ h)) (delayed time n u (z ∷ h)) (run_gaps time u e (z ∷ h)))
     where

@@ -6,12 +6,11 @@ use lib.Dec.{T}
 use lib.Ieee.{Float, binary64, add, sub, le}
 use Rattle.reals.specs.Constants.{plus_zero}
 use Rattle.reals.specs.Order.{greater}
-use Rattle.reals.specs.Seen.{seen_never, seen_gap}
+use Rattle.reals.specs.Seen.{seen_gap}
 use Rattle.reals.specs.Switch.{switch}
 use Rattle.reals.proofs.Truth.{table1}
 use Rattle.logical.specs.declared.true_false_hold.TrueFalseHoldState.{TrueFalseHoldState}
 use Rattle.logical.specs.declared.true_false_hold.TrueFalseHoldOutput.{TrueFalseHoldOutput}
-use Rattle.logical.specs.Switch.{logical_switch}
 use Rattle.logical.specs.TrueFalseHold.{true_false_hold_new, true_false_hold_required, true_false_hold_output_and_timer, true_false_hold_output, true_false_hold_update}
 use Rattle.past.specs.Acceptance.{last_time}
 use Rattle.past.specs.Past.{since_with}
@@ -82,7 +81,7 @@ module _ {A : Type 0} (time : A → Float) (fall rise : Float) (u : List A → B
     required false = er
 
     hold_step : (x : A) (h : List A) → T (in_order time (x ∷ h)) → true_false_hold_output_and_timer (true_false_hold_of h) (time x) (u (x ∷ h)) ≡ told (held (x ∷ h)) (hold_elapsed (x ∷ h))
-    unfolding true_false_hold_output_and_timer true_false_hold_required switch logical_switch seen_never seen_gap
+    unfolding true_false_hold_output_and_timer true_false_hold_required switch seen_gap
     hold_step x [] o = unfold hold values hold_here hold_elapsed turns in refl
     hold_step x (z ∷ h) o =
         rw (required (held (z ∷ h)), gap_here time x z h o, elapsed_next x z h, hold_next x z h)

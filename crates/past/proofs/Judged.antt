@@ -1,4 +1,5 @@
 -- Rows that are not refused by 1, 2 or 3 have times in order. Assumes nothing.
+use Rattle.std.specs.Prelude.{Ok, Err}
 use mathlib.Core.Path.{◌≡◌, refl}
 use mathlib.Core.Bool.{Bool, true, false, not, ◌&&◌, cond}
 use mathlib.Core.List.{List, [], ◌∷◌}
@@ -10,8 +11,7 @@ use Rattle.reals.specs.Sign.{is_time, is_sign_negative}
 use Rattle.reals.specs.Seen.{seen_above}
 use Rattle.reals.proofs.FloatOrder.{not-lt→le}
 use Rattle.refusals.specs.declared.Refusal.TheVariants.{NotFinite, NegativeTime, FallingTime}
-use Rattle.refusals.specs.declared.Verdict.TheVariants.{Accepted, Refused}
-use Rattle.refusals.specs.Refusals.{judge}
+use Rattle.refusals.specs.Refusals.{Verdict, judge}
 use Rattle.refusals.proofs.Accepting.{refused_is_not_accepted}
 use Rattle.past.specs.Acceptance.{last_time}
 use Rattle.past.specs.Stepped.{not_before, in_order}
@@ -30,7 +30,7 @@ time_number (inf s) h = refl
 time_number (fin s m e) h = refl
 
 -- what an accepted row's tests were
-judged : (a b c : Bool) → cond (not a) (Refused NotFinite) (cond b (Refused NegativeTime) (cond c (Refused FallingTime) Accepted)) ≡ Accepted → T a × (b ≡ false) × (c ≡ false)
+judged : (a b c : Bool) → ◌≡◌ {A = Verdict} (cond (not a) (Err NotFinite) (cond b (Err NegativeTime) (cond c (Err FallingTime) (Ok tt)))) (Ok tt) → T a × (b ≡ false) × (c ≡ false)
 judged true false false e = (tt, refl, refl)
 judged true false true e = absurd (refused_is_not_accepted FallingTime e)
 judged true true c e = absurd (refused_is_not_accepted NegativeTime e)
@@ -43,7 +43,7 @@ module _ {R : Type 0} (time : R → Float) (all_finite : R → Bool) (time_finit
   not_before_lem t a [] o e = tt
   not_before_lem t a (y ∷ h) o e = not-lt→le t (time y) a (time_number (time y) (time_here time y h o)) e
 
-  pub judged_in_order : (x : R) (h : List R) → T (in_order time h) → judge (all_finite x) (time x) (last_time time h) ≡ Accepted → T (in_order time (x ∷ h))
+  pub judged_in_order : (x : R) (h : List R) → T (in_order time h) → judge (all_finite x) (time x) (last_time time h) ≡ Ok tt → T (in_order time (x ∷ h))
   unfolding judge
   judged_in_order x h o e =
       let tests = judged (all_finite x) (is_sign_negative (time x)) (seen_above (last_time time h) (time x)) e in

@@ -1,4 +1,5 @@
 -- The timer that runs on: its mark reads as `lapsed`, its elapsed time as `since_rise`, and the edge on its mark as `lapses`. Assumes nothing.
+use Rattle.std.specs.Prelude.{Option, None, Some}
 use mathlib.Core.Path.{◌≡◌, refl, ◌∙◌}
 use mathlib.Core.Bool.{Bool, true, false, not, ◌&&◌, ◌||◌, cond}
 use mathlib.Core.List.{List, [], ◌∷◌}
@@ -6,12 +7,9 @@ use lib.Ieee.{Float, binary64, sub, le}
 use Rattle.reals.specs.Constants.{plus_zero}
 use Rattle.reals.specs.Seen.{seen_elapsed}
 use Rattle.reals.specs.Switch.{switch}
-use Rattle.reals.specs.declared.seen.Seen.{Seen}
-use Rattle.reals.specs.declared.seen.Seen.TheVariants.{Never, At}
 use Rattle.reals.proofs.Truth.{table2}
 use Rattle.logical.specs.declared.held_timer.HeldTimerState.{HeldTimerState}
 use Rattle.logical.specs.Edge.{edge_output}
-use Rattle.logical.specs.Switch.{logical_switch}
 use Rattle.logical.specs.HeldTimer.{held_timer_new}
 use Rattle.logical.specs.HourTimer.{run_on_timer_output, run_on_timer_update}
 use Rattle.past.specs.Past.{risen}
@@ -25,8 +23,8 @@ use Rattle.past.proofs.Stepped.{stepped_is}
 -- u is false before row 0, and the threshold n is above 0
 module _ {A : Type 0} (time : A → Float) (n : Float) (u : List A → Bool) (e : u [] ≡ false) (positive : le n plus_zero ≡ false) where
   -- the time of the last rise, if there was one
-  abbrev pub rise_of : List A → Seen
-  rise_of h = cond (risen u h) (At (last_rise time u e h)) Never
+  abbrev pub rise_of : List A → Option Float
+  rise_of h = cond (risen u h) (Some (last_rise time u e h)) None
 
   abbrev pub run_on_timer_of : List A → HeldTimerState
   run_on_timer_of h = record { threshold = n; entry_time = rise_of h; prev_u = u h; passed = lapsed time n u h }
@@ -39,17 +37,17 @@ module _ {A : Type 0} (time : A → Float) (n : Float) (u : List A → Bool) (e 
   unfolding switch seen_elapsed
   run_on_elapsed x h = rw (since_rise_step time u e x h) (go (u (x ∷ h) && not (u h)) (risen u h) (last_rise time u e h))
     where
-      go : (r o : Bool) (s : Float) → cond r plus_zero (seen_elapsed (cond o (At s) Never) (time x)) ≡ cond (not r && o) (sub binary64 (time x) s) plus_zero
+      go : (r o : Bool) (s : Float) → cond r plus_zero (seen_elapsed (cond o (Some s) None) (time x)) ≡ cond (not r && o) (sub binary64 (time x) s) plus_zero
       go true o s = refl
       go false true s = refl
       go false false s = refl
 
   run_on_passed : (x : A) (h : List A) → (run_on_timer_output (run_on_timer_of h) (time x) (u (x ∷ h))).passed ≡ lapsed time n u (x ∷ h)
-  unfolding run_on_timer_output logical_switch switch seen_elapsed
+  unfolding run_on_timer_output switch seen_elapsed
   run_on_passed x h = rw (positive, lapsed_step time u e n x h) (go (u (x ∷ h) && not (u h)) (lapsed time n u h) (risen u h) (last_rise time u e h))
     where
       go : (r l o : Bool) (s : Float)
-          → cond r false (cond (le n (cond r plus_zero (seen_elapsed (cond o (At s) Never) (time x)))) true l) ≡ (not r && (o && le n (sub binary64 (time x) s) || l))
+          → cond r false (cond (le n (cond r plus_zero (seen_elapsed (cond o (Some s) None) (time x)))) true l) ≡ (not r && (o && le n (sub binary64 (time x) s) || l))
       go true l o s = refl
       go false l true s = table2 (λ d l. cond d true l) (λ d l. d || l) tt (le n (sub binary64 (time x) s)) l
       go false l false s = rw positive refl
@@ -58,10 +56,10 @@ module _ {A : Type 0} (time : A → Float) (n : Float) (u : List A → Bool) (e 
   unfolding run_on_timer_output
   run_on_timer_output_lem x h = λ i. record { passed = run_on_passed x h i; elapsed = run_on_elapsed x h i }
 
-  rise_step : (x : A) (h : List A) → cond (u (x ∷ h) && not (u h)) (At (time x)) (rise_of h) ≡ rise_of (x ∷ h)
+  rise_step : (x : A) (h : List A) → cond (u (x ∷ h) && not (u h)) (Some (time x)) (rise_of h) ≡ rise_of (x ∷ h)
   rise_step x h = rw (risen_step time u e x h) (go (u (x ∷ h) && not (u h)) (risen u h) (last_rise time u e h))
     where
-      go : (r o : Bool) (s : Float) → cond r (At (time x)) (cond o (At s) Never) ≡ cond (r || o) (At (cond r (time x) s)) Never
+      go : (r o : Bool) (s : Float) → cond r (Some (time x)) (cond o (Some s) None) ≡ cond (r || o) (Some (cond r (time x) s)) None
       go true o s = refl
       go false o s = refl
 

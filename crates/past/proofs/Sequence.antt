@@ -1,14 +1,13 @@
 -- The theorem over whole lists for a sequence whose rows refusals 1, 2 and 3 judge: it is enough that over accepted rows the value is the one read off the past,
 -- and that the state moves on with the past. Assumes nothing.
+use Rattle.std.specs.Prelude.{Option, Ok, Err}
 use mathlib.Core.Path.{◌≡◌, refl, ap}
 use mathlib.Core.Bool.{Bool}
 use mathlib.Core.List.{List, [], ◌∷◌}
 use lib.Dec.{T}
 use lib.Ieee.{Float}
 use lib.Ieee.Scale.{finite}
-use Rattle.reals.specs.declared.seen.Seen.{Seen}
-use Rattle.refusals.specs.declared.Verdict.{Verdict}
-use Rattle.refusals.specs.declared.Verdict.TheVariants.{Accepted, Refused}
+use Rattle.refusals.specs.Refusals.{Verdict}
 use Rattle.refusals.specs.Refusals.{judge}
 use Rattle.logical.specs.Run.{run}
 use Rattle.past.specs.Acceptance.{last_time, verdict_after}
@@ -18,22 +17,22 @@ use Rattle.past.proofs.Judged.{judged_in_order}
 use Rattle.past.proofs.Whole.{run_reads}
 
 -- a value, and a state, count only where the row is accepted
-pub told_where_accepted : {Y : Type 0} (v : Verdict) (a b : Y) → (v ≡ Accepted → a ≡ b) → told_by v a ≡ told_by v b
-told_where_accepted Accepted a b f = ap Taken (f refl)
-told_where_accepted (Refused r) a b f = refl
+pub told_where_accepted : {Y : Type 0} (v : Verdict) (a b : Y) → (v ≡ Ok tt → a ≡ b) → told_by v a ≡ told_by v b
+told_where_accepted (Ok tt) a b f = ap Taken (f refl)
+told_where_accepted (Err r) a b f = refl
 
-next_where_accepted : {S : Type 0} (v : Verdict) (a b old : S) → (v ≡ Accepted → a ≡ b) → next_by v a old ≡ next_by v b old
-next_where_accepted Accepted a b old f = f refl
-next_where_accepted (Refused r) a b old f = refl
+next_where_accepted : {S : Type 0} (v : Verdict) (a b old : S) → (v ≡ Ok tt → a ≡ b) → next_by v a old ≡ next_by v b old
+next_where_accepted (Ok tt) a b old f = f refl
+next_where_accepted (Err r) a b old f = refl
 
 module _ {R : Type 0} (time : R → Float) (all_finite : R → Bool) (time_finite : (x : R) → T (all_finite x) → T (finite (time x))) where
   -- an accepted row keeps the times in order
-  pub in_order_lem : (x : R) (h : List R) → T (in_order time h) → verdict_after time all_finite h x ≡ Accepted → T (in_order time (x ∷ h))
+  pub in_order_lem : (x : R) (h : List R) → T (in_order time h) → verdict_after time all_finite h x ≡ Ok tt → T (in_order time (x ∷ h))
   unfolding verdict_after
   in_order_lem x h o e = judged_in_order time all_finite time_finite x h o e
 
   -- `last` is the last accepted time that a state keeps; `value` is what an accepted row tells, and `after` the state that it leaves
-  module _ {S Y : Type 0} (last : S → Seen) (value : S → R → Y) (after : S → R → S) where
+  module _ {S Y : Type 0} (last : S → Option Float) (value : S → R → Y) (after : S → R → S) where
     abbrev verdict_by : S → R → Verdict
     verdict_by s x = judge (all_finite x) (time x) (last s)
 

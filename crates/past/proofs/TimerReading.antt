@@ -1,5 +1,6 @@
 -- The timers and the 2 s delay: freeze's timer holds its pass, so its mark reads as `passed`; relief's timer and delay test the present row only, and read as
 -- `running`. The elapsed time of both timers reads as `elapsed`. Assumes nothing.
+use Rattle.std.specs.Prelude.{Option, None, Some, is_none}
 use mathlib.Core.Path.{◌≡◌, refl, sym, ap, ◌∙◌}
 use mathlib.Core.Bool.{Bool, true, false, not, ◌&&◌, ◌||◌, cond}
 use mathlib.Core.List.{List, [], ◌∷◌}
@@ -7,16 +8,13 @@ use lib.Dec.{T}
 use lib.Ieee.{Float, binary64, sub, le}
 use lib.Ieee.Scale.{finite}
 use Rattle.reals.specs.Constants.{plus_zero}
-use Rattle.reals.specs.Seen.{seen_never, seen_elapsed}
+use Rattle.reals.specs.Seen.{seen_elapsed}
 use Rattle.reals.specs.Switch.{switch}
-use Rattle.reals.specs.declared.seen.Seen.{Seen}
-use Rattle.reals.specs.declared.seen.Seen.TheVariants.{Never, At}
 use Rattle.reals.proofs.Truth.{table2}
 use Rattle.reals.proofs.Times.{self_gap}
 use Rattle.logical.specs.declared.held_timer.HeldTimerState.{HeldTimerState}
 use Rattle.logical.specs.declared.present_timer.PresentTimerState.{PresentTimerState}
 use Rattle.logical.specs.declared.true_delay_on_init.TrueDelayOnInitState.{TrueDelayOnInitState}
-use Rattle.logical.specs.Switch.{logical_switch}
 use Rattle.logical.specs.Timer.{entry_time, elapsed_time}
 use Rattle.logical.specs.HeldTimer.{held_timer_new, held_timer_output, held_timer_update}
 use Rattle.logical.specs.PresentTimer.{present_timer_new, present_timer_output, present_timer_update}
@@ -29,14 +27,14 @@ use Rattle.past.proofs.Stepped.{stepped_is}
 -- u is false before row 0, and the threshold n is above 0
 module _ {A : Type 0} (time : A → Float) (n : Float) (u : List A → Bool) (e : u [] ≡ false) (positive : le n plus_zero ≡ false) where
   -- the entry time: that of the last rise while u is true, none while it is false
-  abbrev pub entry_of : List A → Seen
-  entry_of h = cond (u h) (At (last_rise time u e h)) Never
+  abbrev pub entry_of : List A → Option Float
+  entry_of h = cond (u h) (Some (last_rise time u e h)) None
 
   entry_step : (x : A) (h : List A) → entry_time (entry_of h) (u h) (time x) (u (x ∷ h)) ≡ entry_of (x ∷ h)
   unfolding entry_time
   entry_step x h = go (u (x ∷ h)) (u h) (last_rise time u e h)
     where
-      go : (a b : Bool) (r : Float) → cond a (cond b (cond b (At r) Never) (At (time x))) Never ≡ cond a (At (cond (a && not b) (time x) r)) Never
+      go : (a b : Bool) (r : Float) → cond a (cond b (cond b (Some r) None) (Some (time x))) None ≡ cond a (Some (cond (a && not b) (time x) r)) None
       go true true r = refl
       go true false r = refl
       go false b r = refl
@@ -45,7 +43,7 @@ module _ {A : Type 0} (time : A → Float) (n : Float) (u : List A → Bool) (e 
   unfolding elapsed_time switch seen_elapsed
   elapsed_reads x h = rw (elapsed_step time u e x h) (go (u (x ∷ h)) (u h) (last_rise time u e h))
     where
-      go : (a b : Bool) (r : Float) → cond (a && b) (seen_elapsed (cond b (At r) Never) (time x)) plus_zero ≡ cond (a && b) (sub binary64 (time x) r) plus_zero
+      go : (a b : Bool) (r : Float) → cond (a && b) (seen_elapsed (cond b (Some r) None) (time x)) plus_zero ≡ cond (a && b) (sub binary64 (time x) r) plus_zero
       go true true r = refl
       go true false r = refl
       go false b r = refl
@@ -64,7 +62,7 @@ module _ {A : Type 0} (time : A → Float) (n : Float) (u : List A → Bool) (e 
   not_passed (y ∷ h) = rw (passed_step time u e n y h) (table2 (λ a b. a && b) (λ a b. a && (a && b)) tt (u (y ∷ h)) (u h && le n (sub binary64 (time y) (last_rise time u e h)) || passed time n u h))
 
   held_passed : (x : A) (h : List A) → (held_timer_output (held_timer_of h) (time x) (u (x ∷ h))).passed ≡ passed time n u (x ∷ h)
-  unfolding held_timer_output elapsed_time logical_switch switch seen_elapsed
+  unfolding held_timer_output elapsed_time switch seen_elapsed
   held_passed x h =
       rw (passed_step time u e n x h, positive)
       (ap (λ (p : Bool). cond (u (x ∷ h) && not (u h)) false (cond (u (x ∷ h) && le n (cond (u (x ∷ h) && u h) (seen_elapsed (entry_of h) (time x)) plus_zero)) true (cond (not (u (x ∷ h)) && u h) false p))) (not_passed h)
@@ -72,7 +70,7 @@ module _ {A : Type 0} (time : A → Float) (n : Float) (u : List A → Bool) (e 
       ∙ ap (λ (p : Bool). u (x ∷ h) && (u h && le n (sub binary64 (time x) (last_rise time u e h)) || p)) (sym (not_passed h)))
     where
       go : (a b p : Bool) (r : Float)
-          → cond (a && not b) false (cond (a && le n (cond (a && b) (seen_elapsed (cond b (At r) Never) (time x)) plus_zero)) true (cond (not a && b) false (b && p)))
+          → cond (a && not b) false (cond (a && le n (cond (a && b) (seen_elapsed (cond b (Some r) None) (time x)) plus_zero)) true (cond (not a && b) false (b && p)))
           ≡ (a && (b && le n (sub binary64 (time x) r) || b && p))
       go true true p r = table2 (λ d c. cond d true c) (λ d c. d || c) tt (le n (sub binary64 (time x) r)) p
       go true false p r = refl
@@ -107,7 +105,7 @@ module _ {A : Type 0} (time : A → Float) (n : Float) (u : List A → Bool) (e 
   unfolding present_timer_output elapsed_time switch seen_elapsed
   present_passed x h f = rw (running_step time u e n x h) (go (u (x ∷ h)) (u h) (last_rise time u e h))
     where
-      go : (a b : Bool) (r : Float) → (a && b && le n (cond (a && b) (seen_elapsed (cond b (At r) Never) (time x)) plus_zero)) ≡ (a && le n (sub binary64 (time x) (cond (a && not b) (time x) r)))
+      go : (a b : Bool) (r : Float) → (a && b && le n (cond (a && b) (seen_elapsed (cond b (Some r) None) (time x)) plus_zero)) ≡ (a && le n (sub binary64 (time x) (cond (a && not b) (time x) r)))
       go true true r = refl
       go true false r = sym (at_rise x f)
       go false b r = refl
@@ -139,11 +137,11 @@ module _ {A : Type 0} (time : A → Float) (n : Float) (u : List A → Bool) (e 
   true_delay_on_init_new_lem = rw e refl
 
   pub true_delay_on_init_output_lem : (x : A) (h : List A) → T (finite (time x)) → true_delay_on_init_output (true_delay_on_init_of h) (time x) (u (x ∷ h)) ≡ running time n u (x ∷ h)
-  unfolding true_delay_on_init_output seen_elapsed seen_never
+  unfolding true_delay_on_init_output seen_elapsed
   true_delay_on_init_output_lem x h f = rw (running_step time u e n x h) (go (u (x ∷ h)) (u h) (last_rise time u e h))
     where
       go : (a b : Bool) (r : Float)
-          → (a && not (seen_never (cond b (At r) Never)) && le n (seen_elapsed (cond b (At r) Never) (time x))) ≡ (a && le n (sub binary64 (time x) (cond (a && not b) (time x) r)))
+          → (a && not (is_none (cond b (Some r) None)) && le n (seen_elapsed (cond b (Some r) None) (time x))) ≡ (a && le n (sub binary64 (time x) (cond (a && not b) (time x) r)))
       go true true r = refl
       go true false r = sym (at_rise x f)
       go false b r = refl

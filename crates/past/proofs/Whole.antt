@@ -1,5 +1,6 @@
 -- The theorem over whole lists, once for all sequences: where the state is a function of the accepted rows, a run from a fresh state gives at every place what
 -- the list alone tells there. Assumes nothing.
+use Rattle.std.specs.Prelude.{Ok, Err}
 use Prim.Native.Nat.{ℕ, zero, suc, ◌<◌}
 use native.Mathlib.Nat.{not-suc-le-zero, le_of_suc-le-suc}
 use mathlib.Core.Path.{◌≡◌, refl, ◌∙◌}
@@ -7,8 +8,7 @@ use mathlib.Core.Bool.{Bool}
 use mathlib.Core.List.{List, [], ◌∷◌, reverse_aux}
 use lib.Dec.{T}
 use lib.ListN.{length, get_or, take}
-use Rattle.refusals.specs.declared.Verdict.{Verdict}
-use Rattle.refusals.specs.declared.Verdict.TheVariants.{Accepted, Refused}
+use Rattle.refusals.specs.Refusals.{Verdict}
 use Rattle.logical.specs.Run.{run}
 use Rattle.past.specs.Whole.{Told, told_by, next_by, state_after, accepted, read_at, read_all}
 
@@ -17,7 +17,7 @@ module _ {S R Y : Type 0}
     (verdict : List R → R → Verdict) (good : List R → Bool) (read : List R → Y)
     (answer : S → R → Told Y) (next : S → R → S) (state_of : List R → S)
     (Good-none : T (good []))
-    (Good-more : (x : R) (h : List R) → T (good h) → verdict h x ≡ Accepted → T (good (x ∷ h)))
+    (Good-more : (x : R) (h : List R) → T (good h) → verdict h x ≡ Ok tt → T (good (x ∷ h)))
     (answers : (x : R) (h : List R) → T (good h) → answer (state_of h) x ≡ told_by (verdict h x) (read (x ∷ h)))
     (moves : (x : R) (h : List R) → T (good h) → next (state_of h) x ≡ next_by (verdict h x) (state_of (x ∷ h)) (state_of h)) where
   pub good_accepted : (l : List R) → T (good (accepted verdict l))
@@ -25,17 +25,17 @@ module _ {S R Y : Type 0}
   good_accepted [] = Good-none
   good_accepted (x ∷ l) = go (verdict (accepted verdict l) x) (Good-more x (accepted verdict l) (good_accepted l)) (good_accepted l)
     where
-      go : (v : Verdict) → (v ≡ Accepted → T (good (x ∷ accepted verdict l))) → T (good (accepted verdict l)) → T (good (next_by v (x ∷ accepted verdict l) (accepted verdict l)))
-      go Accepted f g = f refl
-      go (Refused r) f g = g
+      go : (v : Verdict) → (v ≡ Ok tt → T (good (x ∷ accepted verdict l))) → T (good (accepted verdict l)) → T (good (next_by v (x ∷ accepted verdict l) (accepted verdict l)))
+      go (Ok tt) f g = f refl
+      go (Err r) f g = g
 
   pub state_after_lem : (x : R) (l : List R) → next (state_of (accepted verdict l)) x ≡ state_of (accepted verdict (x ∷ l))
   unfolding accepted
   state_after_lem x l = moves x (accepted verdict l) (good_accepted l) ∙ go (verdict (accepted verdict l) x)
     where
       go : (v : Verdict) → next_by v (state_of (x ∷ accepted verdict l)) (state_of (accepted verdict l)) ≡ state_of (next_by v (x ∷ accepted verdict l) (accepted verdict l))
-      go Accepted = refl
-      go (Refused r) = refl
+      go (Ok tt) = refl
+      go (Err r) = refl
 
   -- the state that a run hands to a row is that of the accepted rows before
   pub state_is : (l : List R) → state_after next (state_of []) l ≡ state_of (accepted verdict l)

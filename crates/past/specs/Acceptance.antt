@@ -1,15 +1,13 @@
 -- Acceptance read off the list alone, for rows that refusals 1, 2 and 3 judge (document 01: 'A row is accepted exactly when no refusal fits it').
-use Rattle.std.specs.Prelude.{Bool, List, [], ◌∷◌, Float}
-use Rattle.reals.specs.declared.seen.Seen.{Seen}
-use Rattle.reals.specs.declared.seen.Seen.TheVariants.{Never, At}
-use Rattle.refusals.specs.declared.Verdict.{Verdict}
+use Rattle.std.specs.Prelude.{Bool, List, [], ◌∷◌, Float, Option, None, Some}
+use Rattle.refusals.specs.Refusals.{Verdict}
 use Rattle.refusals.specs.Refusals.{judge}
 
 module _ {R : Type 0} (time : R → Float) where
   -- the last accepted time: that of the nearest accepted row before, if any
-  abbrev pub last_time : List R → Seen
-  last_time [] = Never
-  last_time (x ∷ h) = At (time x)
+  abbrev pub last_time : List R → Option Float
+  last_time [] = None
+  last_time (x ∷ h) = Some (time x)
 
   -- the refusal, if any, that fits a row after these accepted rows; `all_finite` tests the row's numbers
   unfoldable pub verdict_after : (R → Bool) → List R → R → Verdict

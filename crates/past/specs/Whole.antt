@@ -1,8 +1,7 @@
 -- Whole lists of rows, refused ones included (document 01, 'The past, read without state'): what the list alone tells at each place. What a run gives there: `run` of logical.
-use Rattle.std.specs.Prelude.{List, [], ◌∷◌}
+use Rattle.std.specs.Prelude.{List, [], ◌∷◌, Ok, Err}
 use Rattle.refusals.specs.declared.Refusal.{Refusal}
-use Rattle.refusals.specs.declared.Verdict.{Verdict}
-use Rattle.refusals.specs.declared.Verdict.TheVariants.{Accepted, Refused}
+use Rattle.refusals.specs.Refusals.{Verdict}
 
 -- what a row's answer tells: a refusal, or a value (the stage; enable and delays; the mean and the pulses) of an accepted row
 pub data Told (Y : Type 0) : Type 0 where
@@ -11,13 +10,13 @@ pub data Told (Y : Type 0) : Type 0 where
 
 -- what a verdict and a value make of a row
 abbrev pub told_by : {Y : Type 0} → Verdict → Y → Told Y
-told_by Accepted v = Taken v
-told_by (Refused r) v = NotTaken r
+told_by (Ok tt) v = Taken v
+told_by (Err r) v = NotTaken r
 
 -- an accepted row changes the state, a refused one hands the old state back
 abbrev pub next_by : {S : Type 0} → Verdict → S → S → S
-next_by Accepted next old = next
-next_by (Refused r) next old = old
+next_by (Ok tt) next old = next
+next_by (Err r) next old = old
 
 -- the state that a run hands to the row after the rows l, refused ones too, the newest first
 unfoldable pub state_after : {S R : Type 0} → (S → R → S) → S → List R → S

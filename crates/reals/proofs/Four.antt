@@ -6,6 +6,7 @@ use Prim.Native.Nat.{ℕ, zero, suc, ◌+◌, ◌≤◌, ◌<◌}
 use native.Mathlib.Numerals.{add-one}
 use native.Mathlib.Omega.{arith}
 use lib.ListN.{set, get_or, length}
+use Rattle.std.specs.List.{fold}
 use Rattle.reals.specs.Four.{each4, fold4}
 
 module _ {A : Type 0} where
@@ -81,6 +82,16 @@ module _ {A : Type 0} where
 
   pub ends : {f : A → ℕ → A} {z : A} {n : ℕ} {y : A} → Steps f z n y → 4 ≤ n → y ≡ fold4 f z
   ends {f} {z} {n} {y} h l = let e : n ≡ 4 = omega arith in rw e at h.so
+
+-- a fold over an array of four is four steps by index
+module _ {A B : Type 0} where
+  pub folded : (h : B → A → B) (z : B) (values : List A) (d : A) → length values ≡ 4 → fold h z values ≡ fold4 (λ y i. h y (get_or values i d)) z
+  folded h z (a ∷ b ∷ c ∷ e ∷ []) d l = refl
+  folded h z [] d l = absurd (omega arith)
+  folded h z (a ∷ []) d l = absurd (omega arith)
+  folded h z (a ∷ b ∷ []) d l = absurd (omega arith)
+  folded h z (a ∷ b ∷ c ∷ []) d l = absurd (omega arith)
+  folded h z (a ∷ b ∷ c ∷ e ∷ x ∷ xs) d l = absurd (omega arith)
 
 -- what a loop that fills an array, and one that takes steps, is proved by: its start, a turn, its end
 pub ruleset fill_loop = (start, more, done)

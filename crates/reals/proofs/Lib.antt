@@ -4,6 +4,7 @@ pub mod FloatOrder
 pub mod Round
 pub mod Between
 pub mod Times
+pub mod Signs
 pub mod WholeNumbers
 pub mod Four
 pub mod Constants

@@ -1,9 +1,8 @@
 -- The two PI loops, sampled by forward Euler: CDL.Reals.PID and CDL.Reals.PIDWithReset with controllerType PI and reverseActing = true. The models integrate
 -- over continuous time, the Rust takes one step a row, of the gap before that row, so that row 0's error adds nothing; docs/DIFFERENCES.md has what follows.
-use Rattle.std.specs.Prelude.{Bool, false, not, ◌&&◌, Float}
+use Rattle.std.specs.Prelude.{Bool, false, not, ◌&&◌, Float, None, Some}
 use Rattle.std.specs.Float.{binary64}
 use Rattle.std.specs.Float.Ieee.{add, sub, mul, div}
-use Rattle.reals.specs.declared.seen.Seen.TheVariants.{Never, At}
 use Rattle.reals.specs.declared.pid.PidState.{PidState}
 use Rattle.reals.specs.declared.pid_with_reset.PidWithResetState.{PidWithResetState}
 use Rattle.reals.specs.Constants.{plus_zero, half, nine_tenths, one}
@@ -39,7 +38,7 @@ pid_integrated integral error unlimited limited dt =
 
 -- ---- the freeze loop: limited by `f64::clamp`, so a NaN comes back (F7)
 unfoldable pub pid_new : PidState
-pid_new = record { integral = plus_zero; prev_t = Never }
+pid_new = record { integral = plus_zero; prev_t = None }
 
 unfoldable pub pid_output : PidState → Float → Float → Float
 pid_output s setpoint measurement = limit (pid_unlimited (sub binary64 setpoint measurement) s.integral) y_min y_max
@@ -48,11 +47,11 @@ unfoldable pub pid_update : PidState → Float → Float → Float → PidState
 pid_update s t setpoint measurement =
     let error = sub binary64 setpoint measurement in
     let unlimited = pid_unlimited error s.integral in
-    record { integral = pid_integrated s.integral error unlimited (limit unlimited y_min y_max) (seen_gap s.prev_t t); prev_t = At t }
+    record { integral = pid_integrated s.integral error unlimited (limit unlimited y_min y_max) (seen_gap s.prev_t t); prev_t = Some t }
 
 -- ---- the economizer's loop: limited by the Rust's own `clamp`
 unfoldable pub pid_with_reset_new : PidWithResetState
-pid_with_reset_new = record { integral = plus_zero; prev_t = Never; previous_trigger = false }
+pid_with_reset_new = record { integral = plus_zero; prev_t = None; previous_trigger = false }
 
 unfoldable pub pid_with_reset_output : PidWithResetState → Float → Float → Float
 pid_with_reset_output s setpoint measurement = clamp (pid_unlimited (sub binary64 setpoint measurement) s.integral) y_min y_max
@@ -66,6 +65,6 @@ pid_with_reset_update s t setpoint measurement trigger =
       integral =
           switch (trigger && not s.previous_trigger) (sub binary64 plus_zero (mul binary64 k error))
           (pid_integrated s.integral error unlimited (clamp unlimited y_min y_max) (seen_gap s.prev_t t));
-      prev_t = At t;
+      prev_t = Some t;
       previous_trigger = trigger;
     }

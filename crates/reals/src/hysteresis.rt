@@ -12,12 +12,14 @@ impl HysteresisState {
 
     pub const U_HIGH: f64 = 0.0;
 
+    #[tactic(auto, unfolding(crate::specs::Hysteresis::hysteresis_new))]
     pub fn new() -> Self
         ensures { result ≡ hysteresis_new }
     {
         HysteresisState { previous: false }
     }
 
+    #[tactic(auto, unfolding(crate::specs::Hysteresis::hysteresis_output))]
     pub fn output(self, u: f64) -> bool
         ensures { result ≡ hysteresis_output self u }
     {

@@ -10,6 +10,7 @@ pub struct KeptHysteresisState {
 }
 
 impl KeptHysteresisState {
+    #[tactic(auto, unfolding(crate::specs::Hysteresis::kept_hysteresis_new))]
     pub fn new(u_low: f64, u_high: f64, pre_y_start: bool) -> Self
         ensures { result ≡ kept_hysteresis_new u_low u_high pre_y_start }
     {
@@ -20,6 +21,7 @@ impl KeptHysteresisState {
         }
     }
 
+    #[tactic(auto, unfolding(crate::specs::Hysteresis::kept_hysteresis_output))]
     pub fn output(self, u: f64) -> bool
         ensures { result ≡ kept_hysteresis_output self u }
     {

@@ -5,6 +5,7 @@ ghost use Rattle.reals.specs.Order.{greater, lesser, smallest};
 use crate::switch::switch;
 
 // The greater of two numbers: `a.max(b)` in Rust.
+#[tactic(auto, using(crate::proofs::FloatOrder::differs), unfolding(crate::specs::Order::greater))]
 pub fn greater(a: f64, b: f64) -> f64
     ensures { result ≡ greater a b }
 {
@@ -12,6 +13,7 @@ pub fn greater(a: f64, b: f64) -> f64
 }
 
 // The lesser of two numbers: `a.min(b)` in Rust.
+#[tactic(auto, using(crate::proofs::FloatOrder::differs), unfolding(crate::specs::Order::lesser))]
 pub fn lesser(a: f64, b: f64) -> f64
     ensures { result ≡ lesser a b }
 {
@@ -19,12 +21,9 @@ pub fn lesser(a: f64, b: f64) -> f64
 }
 
 // The smallest of four numbers: `min4` in relief_fan_group.rs.
+#[tactic(auto, unfolding(crate::specs::Order::smallest))]
 pub fn smallest(values: [f64; 4]) -> f64
     ensures { result ≡ smallest values }
 {
-    let mut least = 1.0 / 0.0;
-    for i in 0..4 {
-        least = lesser(least, values[i]);
-    }
-    least
+    values.into_iter().fold(f64::INFINITY, lesser)
 }

@@ -3,12 +3,12 @@ ghost use Rattle.std.specs.Prelude.{◌≡◌};
 ghost use Rattle.reals.specs.Pid.{pid_new, pid_unlimited, pid_integrated, pid_output, pid_update};
 
 use crate::limits::limit;
-use crate::seen::Seen;
+use crate::seen::gap;
 
 #[derive(Clone, Copy)]
 pub struct PidState {
     pub integral: f64,
-    pub prev_t: Seen,
+    pub prev_t: Option<f64>,
 }
 
 impl PidState {
@@ -22,16 +22,18 @@ impl PidState {
 
     pub const Y_MAX: f64 = 1.0;
 
+    #[tactic(auto, unfolding(crate::specs::Pid::pid_new))]
     pub fn new() -> Self
         ensures { result ≡ pid_new }
     {
         PidState {
             integral: 0.0,
-            prev_t: Seen::Never,
+            prev_t: None,
         }
     }
 
     // The controller's output before its limits.
+    #[tactic(auto, unfolding(crate::specs::Pid::pid_unlimited))]
     pub fn unlimited(error: f64, integral: f64) -> f64
         ensures { result ≡ pid_unlimited error integral }
     {
@@ -39,6 +41,7 @@ impl PidState {
     }
 
     // The integral after a step of dt seconds, less what the limits cut off (anti-windup).
+    #[tactic(auto, unfolding(crate::specs::Pid::pid_integrated))]
     pub fn integrated(integral: f64, error: f64, unlimited: f64, limited: f64, dt: f64) -> f64
         ensures { result ≡ pid_integrated integral error unlimited limited dt }
     {
@@ -60,15 +63,13 @@ impl PidState {
         ensures { result ≡ pid_update self t setpoint measurement }
     {
         let error = setpoint - measurement;
-        let integral = self.integral;
-        let unlimited = PidState::unlimited(error, integral);
+        let unlimited = PidState::unlimited(error, self.integral);
         let limited = limit(unlimited, Self::Y_MIN, Self::Y_MAX);
-        let prev_t = self.prev_t;
-        let dt = prev_t.gap(t);
-        let next = PidState::integrated(integral, error, unlimited, limited, dt);
+        let dt = gap(self.prev_t, t);
+        let next = PidState::integrated(self.integral, error, unlimited, limited, dt);
         PidState {
             integral: next,
-            prev_t: Seen::At(t),
+            prev_t: Some(t),
         }
     }
 }

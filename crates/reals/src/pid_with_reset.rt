@@ -4,13 +4,13 @@ ghost use Rattle.reals.specs.Pid.{pid_with_reset_new, pid_with_reset_output, pid
 
 use crate::limits::clamp;
 use crate::pid::PidState;
-use crate::seen::Seen;
+use crate::seen::gap;
 use crate::switch::switch;
 
 #[derive(Clone, Copy)]
 pub struct PidWithResetState {
     pub integral: f64,
-    pub prev_t: Seen,
+    pub prev_t: Option<f64>,
     pub previous_trigger: bool,
 }
 
@@ -21,12 +21,13 @@ impl PidWithResetState {
 
     pub const RESET: f64 = 0.0;
 
+    #[tactic(auto, unfolding(crate::specs::Pid::pid_with_reset_new))]
     pub fn new() -> Self
         ensures { result ≡ pid_with_reset_new }
     {
         PidWithResetState {
             integral: 0.0,
-            prev_t: Seen::Never,
+            prev_t: None,
             previous_trigger: false,
         }
     }
@@ -45,17 +46,15 @@ impl PidWithResetState {
         ensures { result ≡ pid_with_reset_update self t setpoint measurement trigger }
     {
         let error = setpoint - measurement;
-        let integral = self.integral;
-        let unlimited = PidState::unlimited(error, integral);
+        let unlimited = PidState::unlimited(error, self.integral);
         let limited = clamp(unlimited, Self::Y_MIN, Self::Y_MAX);
-        let prev_t = self.prev_t;
-        let dt = prev_t.gap(t);
-        let stepped = PidState::integrated(integral, error, unlimited, limited, dt);
+        let dt = gap(self.prev_t, t);
+        let stepped = PidState::integrated(self.integral, error, unlimited, limited, dt);
         let reset = Self::RESET - PidState::K * error;
         let next = switch(trigger & !self.previous_trigger, reset, stepped);
         PidWithResetState {
             integral: next,
-            prev_t: Seen::At(t),
+            prev_t: Some(t),
             previous_trigger: trigger,
         }
     }

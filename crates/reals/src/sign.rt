@@ -4,6 +4,7 @@ ghost use Rattle.std.specs.Float.Ieee.Scale.{finite};
 ghost use Rattle.reals.specs.Sign.{is_sign_negative, abs};
 
 // Neither a NaN nor an infinity.
+#[tactic(auto, using(crate::proofs::Signs::self_gap_zero))]
 pub fn is_finite(x: f64) -> bool
     ensures { result ≡ finite x }
 {
@@ -11,6 +12,7 @@ pub fn is_finite(x: f64) -> bool
 }
 
 // The sign bit, that of -0.0 too.
+#[tactic(auto, using(crate::proofs::Signs::sign_told))]
 pub fn is_sign_negative(x: f64) -> bool
     ensures { result ≡ is_sign_negative x }
 {

@@ -1,10 +1,10 @@
-// CDL.Reals.Switch and CDL.Conversions.BooleanToReal.
+// CDL.Reals.Switch, CDL.Logical.Switch and CDL.Integers.Switch, one block over three types; CDL.Conversions.BooleanToReal.
 ghost use Rattle.std.specs.Prelude.{◌≡◌};
 ghost use Rattle.reals.specs.Switch.{switch, bool_to_real};
 
 // a where u is true, b where it is false.
 #[tactic(auto, unfolding(crate::specs::Switch::switch))]
-pub fn switch(u: bool, a: f64, b: f64) -> f64
+pub fn switch<T: Copy>(u: bool, a: T, b: T) -> T
     ensures { result ≡ switch u a b }
 {
     if u { a } else { b }

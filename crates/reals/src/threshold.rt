@@ -35,6 +35,7 @@ pub struct ThresholdState {
 
 impl ThresholdState {
     // `greater` in the Rust.
+    #[tactic(auto, unfolding(crate::specs::Threshold::threshold_above))]
     pub fn above(threshold: f64, hysteresis: f64) -> Self
         ensures { result ≡ threshold_above threshold hysteresis }
     {
@@ -47,6 +48,7 @@ impl ThresholdState {
     }
 
     // `less` in the Rust.
+    #[tactic(auto, unfolding(crate::specs::Threshold::threshold_below))]
     pub fn below(threshold: f64, hysteresis: f64) -> Self
         ensures { result ≡ threshold_below threshold hysteresis }
     {
@@ -62,21 +64,19 @@ impl ThresholdState {
     pub fn output(self, input: f64) -> bool
         ensures { result ≡ threshold_output self input }
     {
-        let mode = self.mode;
-        mode.crosses(self.threshold, self.hysteresis, self.previous, input)
+        self.mode
+            .crosses(self.threshold, self.hysteresis, self.previous, input)
     }
 
     #[tactic(auto, unfolding(crate::specs::Threshold::threshold_update))]
     pub fn update(mut self, input: f64) -> Self
         ensures { result ≡ threshold_update self input }
     {
-        let y = self.output(input);
-        let mode = self.mode;
         ThresholdState {
             threshold: self.threshold,
             hysteresis: self.hysteresis,
-            previous: y,
-            mode,
+            previous: self.output(input),
+            mode: self.mode,
         }
     }
 }

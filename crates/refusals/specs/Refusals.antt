@@ -1,13 +1,14 @@
--- Refusals (document 01, 'What each row refuses'; 11 is document 02's, job 10, and 10 is that of job 8, for a row that is written). The first one that fits
--- is given, in the order 1, 2, 3, 11, 4.
-use Rattle.std.specs.Prelude.{ℕ, Bool, not, cond, Float}
-use Rattle.reals.specs.declared.seen.Seen.{Seen}
+-- Refusals by their numbers: 1, 2 and 3 are those of all sequences, 4 and 11 the relief fan group's, and 10 is that of a row that is written. The first one that
+-- fits is given, in the order 1, 2, 3, 11, 4.
+use Rattle.std.specs.Prelude.{ℕ, Bool, not, cond, Float, Option, Result, Ok, Err}
 use Rattle.reals.specs.Sign.{is_sign_negative}
 use Rattle.reals.specs.Seen.{seen_above}
 use Rattle.refusals.specs.declared.Refusal.{Refusal}
 use Rattle.refusals.specs.declared.Refusal.TheVariants.{NotFinite, NegativeTime, FallingTime, AlarmOutOfRange, WindowFull, NoRoom}
-use Rattle.refusals.specs.declared.Verdict.{Verdict}
-use Rattle.refusals.specs.declared.Verdict.TheVariants.{Accepted, Refused}
+
+-- a row is accepted, or refused
+abbrev pub Verdict : Type 0
+Verdict = Result (Unit {0}) Refusal
 
 -- the papers' number of each refusal
 unfoldable pub refusal_number : Refusal → ℕ
@@ -19,11 +20,11 @@ refusal_number WindowFull = 4
 refusal_number NoRoom = 10
 
 -- 1 if a number is not finite; 2 if the time's sign bit is set, so −0.0 too; 3 if the time is below the last accepted time. Equal times are taken.
-unfoldable pub judge : Bool → Float → Seen → Verdict
+unfoldable pub judge : Bool → Float → Option Float → Verdict
 judge finite time last =
-    cond (not finite) (Refused NotFinite) (cond (is_sign_negative time) (Refused NegativeTime) (cond (seen_above last time) (Refused FallingTime) Accepted))
+    cond (not finite) (Err NotFinite) (cond (is_sign_negative time) (Err NegativeTime) (cond (seen_above last time) (Err FallingTime) (Ok tt)))
 
 -- the verdict with one refusal more: it is given where it fits and none of those before it does
 unfoldable pub verdict_or_refused : Verdict → Bool → Refusal → Verdict
-verdict_or_refused Accepted fits refusal = cond fits (Refused refusal) Accepted
-verdict_or_refused (Refused first) fits refusal = Refused first
+verdict_or_refused (Ok tt) fits refusal = cond fits (Err refusal) (Ok tt)
+verdict_or_refused (Err first) fits refusal = Err first

@@ -1,14 +1,15 @@
-// What a row is refused for (document 01, 'What each row refuses'; document 02, job 10, for alarms, and job 8, for a row that is written), one enum for all,
-// the three refusals that all sequences share, and those that are tried after them.
+// What a row is refused for, one enum for all, the refusals that all sequences share, and what a row gives.
 #![tactic(auto)]
 
 ghost use Rattle.std.specs.Prelude.{◌≡◌};
-ghost use Rattle.refusals.specs.Refusals.{refusal_number, verdict_or_refused, judge};
+ghost use Rattle.refusals.specs.Refusals.{refusal_number, judge};
 
-use reals::seen::Seen;
+use reals::seen::above;
 use reals::sign::is_sign_negative;
 
-#[derive(Clone, Copy)]
+pub mod step; // a row's answer and the state for the next row
+
+#[derive(Clone, Copy, Debug, PartialEq, Eq)]
 pub enum Refusal {
     NotFinite,
     NegativeTime,
@@ -18,11 +19,8 @@ pub enum Refusal {
     NoRoom,
 }
 
-#[derive(Clone, Copy)]
-pub enum Verdict {
-    Accepted,
-    Refused(Refusal),
-}
+// A row is accepted, or refused.
+pub type Verdict = Result<(), Refusal>;
 
 impl Refusal {
     // The papers' number of the refusal: the status of a row line.
@@ -41,38 +39,19 @@ impl Refusal {
     }
 }
 
-impl Verdict {
-    // The verdict with one refusal more, tried after those before it.
-    #[tactic(auto, unfolding(crate::specs::Refusals::verdict_or_refused))]
-    pub fn or_refused(self, fits: bool, refusal: Refusal) -> Verdict
-        ensures { result ≡ verdict_or_refused self fits refusal }
-    {
-        match self {
-            Verdict::Accepted => {
-                if fits {
-                    Verdict::Refused(refusal)
-                } else {
-                    Verdict::Accepted
-                }
-            }
-            Verdict::Refused(first) => Verdict::Refused(first),
-        }
-    }
-}
-
 // The first refusal that fits a row at a time, after rows that were accepted up to the last time: `finite` says that all its numbers are finite.
 #[tactic(auto, unfolding(crate::specs::Refusals::judge))]
-pub fn judge(finite: bool, time: f64, last: Seen) -> Verdict
+pub fn judge(finite: bool, time: f64, last: Option<f64>) -> Verdict
     ensures { result ≡ judge finite time last }
 {
     if !finite {
-        return Verdict::Refused(Refusal::NotFinite);
+        return Err(Refusal::NotFinite);
     }
     if is_sign_negative(time) {
-        return Verdict::Refused(Refusal::NegativeTime);
+        return Err(Refusal::NegativeTime);
     }
-    if last.above(time) {
-        return Verdict::Refused(Refusal::FallingTime);
+    if above(last, time) {
+        return Err(Refusal::FallingTime);
     }
-    Verdict::Accepted
+    Ok(())
 }

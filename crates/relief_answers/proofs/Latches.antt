@@ -1,4 +1,5 @@
 -- The stage latches and the fans commanded on are those that the past tells, with nothing stepped. Assumes nothing.
+use Rattle.std.specs.Prelude.{Ok}
 use Prim.Native.Nat.{ℕ, ◌<◌}
 use native.Mathlib.Omega.{arith}
 use mathlib.Core.Path.{◌≡◌, refl, sym, ◌∙◌}
@@ -8,9 +9,8 @@ use lib.Dec.{T}
 use lib.Ieee.{Float}
 use Rattle.reals.specs.Four.{flag, each4}
 use Rattle.reals.proofs.Truth.{is_false, is_true}
-use Rattle.refusals.specs.declared.Verdict.TheVariants.{Accepted}
 use Rattle.logical.specs.declared.latch.LatchState.{LatchState}
-use Rattle.logical.specs.Switch.{logical_switch}
+use Rattle.reals.specs.Switch.{switch}
 use Rattle.logical.specs.Latch.{latch_new, latch_output, latch_update}
 use Rattle.past.specs.Past.{latched}
 use Rattle.past.specs.Stepped.{in_order}
@@ -21,7 +21,6 @@ use Rattle.relief_fans.specs.Flags.{not_each, switch_each, all_of}
 use Rattle.relief_fan_group.specs.declared.types.ReliefRow.{ReliefRow}
 use Rattle.relief_fan_group.specs.declared.types.ReliefBlocks.{ReliefBlocks}
 use Rattle.relief_fan_group.specs.declared.types.ReliefSignals.{ReliefSignals}
-use Rattle.relief_fan_group.specs.declared.types.ReliefAnswer.TheVariants as Answer
 use Rattle.relief_fan_group.specs.Signals.{stage_up, stage_down, relief_signals}
 use Rattle.relief_fan_group.specs.Commands.{fans_on, relief_commands}
 use Rattle.relief_fan_group.specs.Step.{relief_blocks, relief_fresh, relief_next, relief_row}
@@ -127,7 +126,7 @@ module _ (x : ReliefRow) (h : Past) (t : T (in_order time_of_row (x ∷ h))) whe
       go false a f = refl
 
   pub fans_are : fans_on x.proof (signals_of x h).up (signals_of x h).down ≡ fans_here (x ∷ h)
-  unfolding fans_on switch_each logical_switch fans_here
+  unfolding fans_on switch_each switch fans_here
   fans_are = rw (up_latch_lem, down_latch_lem, or2_is x h, xor_is x h, off) (go (up_latch (x ∷ h)) (down_latch (x ∷ h)))
     where
       up : List Bool
@@ -156,13 +155,13 @@ module _ (x : ReliefRow) (h : Past) (t : T (in_order time_of_row (x ∷ h))) whe
 pub taken_in_order : (l : List ReliefRow) → T (in_order time_of_row (taken l))
 taken_in_order l = good_order (taken l) (accepted_good l)
 
-pub accepted_is_taken : (x : ReliefRow) (l : List ReliefRow) → verdict_of (taken l) x ≡ Accepted
+pub accepted_is_taken : (x : ReliefRow) (l : List ReliefRow) → verdict_of (taken l) x ≡ Ok tt
     → taken (x ∷ l) ≡ x ∷ taken l
 unfolding accepted
 accepted_is_taken x l e = rw e refl
 
 -- the answer of an accepted row is the commands that are worked from the fans read off the list
-pub fans_commanded : (x : ReliefRow) (l : List ReliefRow) → verdict_of (taken l) x ≡ Accepted
-    → ((relief_row (state_after relief_returned relief_fresh l) x).answer ≡ Answer.Commands (relief_commands x (signals_of x (taken l))))
+pub fans_commanded : (x : ReliefRow) (l : List ReliefRow) → verdict_of (taken l) x ≡ Ok tt
+    → ((relief_row (state_after relief_returned relief_fresh l) x).answer ≡ Ok (relief_commands x (signals_of x (taken l))))
     × (fans_on x.proof (signals_of x (taken l)).up (signals_of x (taken l)).down ≡ fans_here (x ∷ taken l))
 fans_commanded x l e = (commands_are x l e, fans_are x (taken l) (rw (accepted_is_taken x l e) at (taken_in_order (x ∷ l))))

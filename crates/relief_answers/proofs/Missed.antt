@@ -1,5 +1,6 @@
 -- Can the relief fans miss a stage? When a pulse is served and each way in which it is not, for every list of rows from a fresh start, refused ones included.
 -- Assumes nothing.
+use Rattle.std.specs.Prelude.{Ok, Err}
 use Prim.Native.Nat.{ℕ, zero, suc, ◌<◌}
 use native.Mathlib.Omega.{arith}
 use mathlib.Core.Path.{◌≡◌, refl, sym, ap, ◌∙◌}
@@ -9,8 +10,7 @@ use lib.Dec.{T}
 use lib.ListN.{drop}
 use Rattle.reals.specs.Four.{flag, each4}
 use Rattle.reals.proofs.Four.{at_each}
-use Rattle.refusals.specs.declared.Verdict.{Verdict}
-use Rattle.refusals.specs.declared.Verdict.TheVariants.{Accepted, Refused}
+use Rattle.refusals.specs.Refusals.{Verdict}
 use Rattle.past.specs.Stepped.{in_order}
 use Rattle.past.specs.Whole.{accepted, next_by}
 use Rattle.relief_fan_group.specs.declared.types.ReliefRow.{ReliefRow}
@@ -108,8 +108,8 @@ one_more d x l e = go (verdict_of (taken l) x)
   where
     go : (v : Verdict)
         → latch d (next_by v (x ∷ taken l) (taken l)) ≡ not (d.settled (next_by v (x ∷ taken l) (taken l)))
-    go Accepted = unless_settled d x (taken l) e
-    go (Refused r) = e ∙ sym (ap not (on_unsettled d (taken l) e))
+    go (Ok tt) = unless_settled d x (taken l) e
+    go (Err r) = e ∙ sym (ap not (on_unsettled d (taken l) e))
 
 pub up_goes_off : (x : ReliefRow) (l : List ReliefRow) → up_latch (taken l) ≡ true
     → up_latch (taken (x ∷ l)) ≡ not (settled_up (taken (x ∷ l)))

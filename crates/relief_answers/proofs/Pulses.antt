@@ -1,4 +1,5 @@
 -- No pulse on the first rows, and none at a row whose mean is a NaN, for every list of rows from a fresh start, refused ones included. Assumes nothing.
+use Rattle.std.specs.Prelude.{Ok, Err}
 use Prim.Native.Nat.{◌≤◌}
 use native.Mathlib.Omega.{arith}
 use mathlib.Core.Path.{◌≡◌, refl, ◌∙◌}
@@ -16,8 +17,7 @@ use Rattle.reals.proofs.FloatOrder.{lt_nan}
 use Rattle.reals.proofs.Between.{limit_of_nan}
 use Rattle.reals.proofs.Truth.{is_true, is_false, table1}
 use Rattle.refusals.specs.declared.Refusal.TheVariants.{NotFinite}
-use Rattle.refusals.specs.declared.Verdict.{Verdict}
-use Rattle.refusals.specs.declared.Verdict.TheVariants.{Accepted, Refused}
+use Rattle.refusals.specs.Refusals.{Verdict}
 use Rattle.refusals.specs.Refusals.{judge}
 use Rattle.refusals.proofs.Accepting.{refused_is_not_accepted}
 use Rattle.past.specs.Acceptance.{verdict_after, last_time}
@@ -45,11 +45,11 @@ abbrev all_finite : Past → Bool
 all_finite [] = true
 all_finite (x ∷ h) = numbers_finite x && all_finite h
 
-accepted_finite : (x : ReliefRow) (h : Past) → verdict_of h x ≡ Accepted → T (numbers_finite x)
+accepted_finite : (x : ReliefRow) (h : Past) → verdict_of h x ≡ Ok tt → T (numbers_finite x)
 unfolding verdict_after
 accepted_finite x h e = go (numbers_finite x) (accepted_judged x h e)
   where
-    go : (b : Bool) → judge b x.time (last_time time_of_row h) ≡ Accepted → T b
+    go : (b : Bool) → judge b x.time (last_time time_of_row h) ≡ Ok tt → T b
     go true e = tt
     go false e = unfold judge in absurd (refused_is_not_accepted NotFinite e)
 
@@ -58,10 +58,10 @@ unfolding accepted
 taken_finite [] = tt
 taken_finite (x ∷ l) = go (verdict_of (taken l) x) (accepted_finite x (taken l)) (taken_finite l)
   where
-    go : (v : Verdict) → (v ≡ Accepted → T (numbers_finite x)) → T (all_finite (taken l))
+    go : (v : Verdict) → (v ≡ Ok tt → T (numbers_finite x)) → T (all_finite (taken l))
         → T (all_finite (next_by v (x ∷ taken l) (taken l)))
-    go Accepted f g = and_i (numbers_finite x) (all_finite (taken l)) (f refl) g
-    go (Refused r) f g = g
+    go (Ok tt) f g = and_i (numbers_finite x) (all_finite (taken l)) (f refl) g
+    go (Err r) f g = g
 
 -- ---- row 0 has the mean 0, so it makes no request up
 first_loop : (x : ReliefRow) → T (numbers_finite x) → lt stage_up_level (loop_of (x ∷ [])) ≡ false

@@ -8,7 +8,7 @@ use lib.Ieee.{inf, add, sub, mul, div, neg, le, lt, eq, is_nan, round, of_bits}
 use lib.Ieee.Scale.{finite}
 use Rattle.reals.specs.Constants.{plus_zero}
 use Rattle.reals.specs.Order.{greater}
-use Rattle.reals.specs.Seen.{seen_never, seen_elapsed, seen_above}
+use Rattle.reals.specs.Seen.{seen_elapsed, seen_above}
 use Rattle.reals.specs.Sign.{is_sign_negative}
 use Rattle.reals.specs.Switch.{switch}
 use Rattle.refusals.specs.Refusals.{verdict_or_refused, judge}
@@ -36,7 +36,7 @@ unfolding pressure_sum add sub mul neg round of_bits
 finite_sum = tt
 
 means : (mean (drop 1 returning) ≡ inf false) × (mean returning ≡ plus_zero)
-unfolding mean moving_average_of moving_average_output moving_average_update moving_average_is_full moving_average_stored moving_average_new held written start_time mu_now averaged_time seen_never seen_elapsed drop_old ends_at store same_time on_line integral_after integral_at greater switch is_sign_negative is_nan zip_with add sub mul div neg le lt eq round of_bits
+unfolding mean moving_average_of moving_average_output moving_average_update moving_average_is_full moving_average_stored moving_average_new held written start_time mu_now averaged_time seen_elapsed drop_old ends_at store same_time on_line integral_after integral_at greater switch is_sign_negative is_nan zip_with add sub mul div neg le lt eq round of_bits
 means = (refl, refl)
 
 -- at its fourth row the mean is infinite, at its fifth it is 0, and the sum is finite

@@ -1,5 +1,6 @@
 -- Case R3, for every row: an unproven fan at alarm 2 has damper 0, an alarm 3 does nothing, and no alarm touches a speed or a signal. In the next state it touches
 -- what is remembered of the alarms and nothing else, and no answer hangs on that. Assumes nothing.
+use Rattle.std.specs.Prelude.{Ok, Err}
 use Prim.Native.Nat.{ℕ, ◌<◌}
 use mathlib.Core.Path.{◌≡◌, refl, ap, ◌∙◌}
 use mathlib.Core.Bool.{Bool, false}
@@ -10,8 +11,7 @@ use Rattle.reals.specs.Constants.{plus_zero}
 use Rattle.reals.specs.Four.{real, flag, each4}
 use Rattle.reals.specs.Switch.{bool_to_real}
 use Rattle.reals.proofs.Four.{at_each}
-use Rattle.refusals.specs.declared.Verdict.{Verdict}
-use Rattle.refusals.specs.declared.Verdict.TheVariants.{Accepted, Refused}
+use Rattle.refusals.specs.Refusals.{Verdict}
 use Rattle.moving_average.specs.State.{moving_average_is_full}
 use Rattle.relief_fans.specs.Alarms.{alarms_fit, alarm_bytes}
 use Rattle.relief_fans.specs.Commands.{level, is_level2, damper_at, damper}
@@ -89,5 +89,5 @@ module _ (alarms : List ℤ) (row : ReliefRow) where
       (go (relief_verdict state.blocks row (moving_average_is_full state.window row.time)))
     where
       go : (v : Verdict) → (step_by v (state_remembering alarms state) row).answer ≡ (step_by v state row).answer
-      go Accepted = unfold step_by signals_at in rw (signals_whatever_is_remembered state.blocks _) refl
-      go (Refused r) = unfold step_by in refl
+      go (Ok tt) = unfold step_by signals_at in rw (signals_whatever_is_remembered state.blocks _) refl
+      go (Err r) = unfold step_by in refl

@@ -1,5 +1,6 @@
 -- Demand 3 for relief rows: for every list of rows from a fresh start, refused ones included, and every place in it, the row's answer is the refusal that the list
 -- alone tells, or else its mean and both pulses are those that document 01 reads off the accepted rows up to there. Assumes nothing.
+use Rattle.std.specs.Prelude.{Ok, Err}
 use Prim.Native.Nat.{ℕ, suc, ◌<◌}
 use mathlib.Core.Path.{◌≡◌, refl, ap, ◌∙◌}
 use mathlib.Core.Bool.{Bool, true, false, not, ◌&&◌, true≢false}
@@ -11,8 +12,7 @@ use lib.Ieee.Scale.{finite}
 use Rattle.reals.specs.Sign.{is_time}
 use Rattle.reals.proofs.FloatOrder.{le→not-lt}
 use Rattle.refusals.specs.declared.Refusal.TheVariants.{AlarmOutOfRange, WindowFull}
-use Rattle.refusals.specs.declared.Verdict.{Verdict}
-use Rattle.refusals.specs.declared.Verdict.TheVariants.{Accepted, Refused}
+use Rattle.refusals.specs.Refusals.{Verdict}
 use Rattle.refusals.specs.Refusals.{verdict_or_refused}
 use Rattle.refusals.proofs.Accepting.{neither_fits}
 use Rattle.past.specs.Stepped.{not_before, in_order}
@@ -29,7 +29,6 @@ use Rattle.moving_average.proofs.Accepted.{accepted_cons}
 use Rattle.moving_average.proofs.Reading.{is_full_reads}
 use Rattle.relief_fans.specs.Alarms.{alarms_fit}
 use Rattle.relief_fan_group.specs.declared.types.ReliefRow.{ReliefRow}
-use Rattle.relief_fan_group.specs.declared.types.ReliefAnswer.TheVariants as Answer
 use Rattle.relief_fan_group.specs.Verdict.{numbers_finite, after_judged, relief_verdict}
 use Rattle.relief_fan_group.specs.Signals.{pressure_control, relief_signals}
 use Rattle.relief_fan_group.specs.Commands.{relief_commands}
@@ -55,7 +54,7 @@ unfolding numbers_finite
 time_finite x t = and_l (finite x.time) (finite x.pressure) t
 
 -- refusals 1 to 3 do not fit: the times stay in order
-judged_order : (x : ReliefRow) (h : Past) → T (in_order time_of_row h) → verdict_after time_of_row numbers_finite h x ≡ Accepted → T (in_order time_of_row (x ∷ h))
+judged_order : (x : ReliefRow) (h : Past) → T (in_order time_of_row h) → verdict_after time_of_row numbers_finite h x ≡ Ok tt → T (in_order time_of_row (x ∷ h))
 judged_order = in_order_lem time_of_row numbers_finite time_finite
 
 -- and that is all that the window asks of the time
@@ -75,24 +74,24 @@ verdict_is x h g =
     rw (last_reads h) (go (verdict_after time_of_row numbers_finite h x)
     (λ e. is_full_reads time_of_row pressure_of_row h (good_window h g) x.time (in_time x h (judged_order x h (good_order h g) e))))
   where
-    go : (v : Verdict) → (v ≡ Accepted → moving_average_is_full (moving_average_of time_of_row pressure_of_row h) x.time ≡ window_is_full (map time_of_row h) x.time)
+    go : (v : Verdict) → (v ≡ Ok tt → moving_average_is_full (moving_average_of time_of_row pressure_of_row h) x.time ≡ window_is_full (map time_of_row h) x.time)
         → after_judged v x (moving_average_is_full (moving_average_of time_of_row pressure_of_row h) x.time) ≡ after_judged v x (window_is_full (map time_of_row h) x.time)
-    go Accepted f = rw (f refl) refl
-    go (Refused r) f = unfold after_judged verdict_or_refused in refl
+    go (Ok tt) f = rw (f refl) refl
+    go (Err r) f = unfold after_judged verdict_or_refused in refl
 
 -- an accepted row keeps all that: no refusal fits it
-module _ (x : ReliefRow) (h : Past) (e : verdict_of h x ≡ Accepted) where
+module _ (x : ReliefRow) (h : Past) (e : verdict_of h x ≡ Ok tt) where
   abbrev judged : Verdict
   judged = verdict_after time_of_row numbers_finite h x
 
   abbrev out_of_range : Bool
   out_of_range = not (alarms_fit x.alarm)
 
-  ranged : (verdict_or_refused judged out_of_range AlarmOutOfRange ≡ Accepted) × (window_is_full (map time_of_row h) x.time ≡ false)
+  ranged : (verdict_or_refused judged out_of_range AlarmOutOfRange ≡ Ok tt) × (window_is_full (map time_of_row h) x.time ≡ false)
   unfolding verdict_of after_judged
   ranged = neither_fits (verdict_or_refused judged out_of_range AlarmOutOfRange) (window_is_full (map time_of_row h) x.time) WindowFull e
 
-  pub accepted_judged : judged ≡ Accepted
+  pub accepted_judged : judged ≡ Ok tt
   accepted_judged = (neither_fits judged out_of_range AlarmOutOfRange ranged.0).0
 
   pub accepted_fits : T (alarms_fit x.alarm)
@@ -102,7 +101,7 @@ module _ (x : ReliefRow) (h : Past) (e : verdict_of h x ≡ Accepted) where
       go true e = tt
       go false e = absurd (true≢false e)
 
-good_more : (x : ReliefRow) (h : Past) → T (good h) → verdict_of h x ≡ Accepted → T (good (x ∷ h))
+good_more : (x : ReliefRow) (h : Past) → T (good h) → verdict_of h x ≡ Ok tt → T (good (x ∷ h))
 good_more x h g e =
     let o = judged_order x h (good_order h g) (accepted_judged x h e) in
     and_i (in_order time_of_row (x ∷ h)) (accepted (map time_of_row (x ∷ h))) o (accepted_cons x.time (map time_of_row h) (in_time x h o) (ranged x h e).1 (good_window h g))
@@ -118,17 +117,17 @@ answers : (x : ReliefRow) (h : Past) → T (good h) → relief_told (state_of h)
 unfolding relief_row
 answers x h g = ap (λ (v : Verdict). pulses_told (step_by v (state_of h) x).answer (signals_at (state_of h) x)) (verdict_is x h g) ∙ go (verdict_of h x) (good_more x h g)
   where
-    go : (v : Verdict) → (v ≡ Accepted → T (good (x ∷ h))) → pulses_told (step_by v (state_of h) x).answer (signals_at (state_of h) x) ≡ told_by v (relief_reading (x ∷ h))
-    go Accepted f = unfold step_by relief_commands in (rw (signals_are x h) (ap Told.Taken (reads_here x h (good_order (x ∷ h) (f refl)))))
-    go (Refused r) f = unfold step_by in refl
+    go : (v : Verdict) → (v ≡ Ok tt → T (good (x ∷ h))) → pulses_told (step_by v (state_of h) x).answer (signals_at (state_of h) x) ≡ told_by v (relief_reading (x ∷ h))
+    go (Ok tt) f = unfold step_by relief_commands in (rw (signals_are x h) (ap Told.Taken (reads_here x h (good_order (x ∷ h) (f refl)))))
+    go (Err r) f = unfold step_by in refl
 
 moves : (x : ReliefRow) (h : Past) → T (good h) → relief_returned (state_of h) x ≡ next_by (verdict_of h x) (state_of (x ∷ h)) (state_of h)
 unfolding relief_row
 moves x h g = ap (λ (v : Verdict). (step_by v (state_of h) x).state) (verdict_is x h g) ∙ go (verdict_of h x)
   where
     go : (v : Verdict) → (step_by v (state_of h) x).state ≡ next_by v (state_of (x ∷ h)) (state_of h)
-    go Accepted = unfold step_by in (rw (signals_are x h) (unfold blocks_of moving_average_of in refl))
-    go (Refused r) = unfold step_by in refl
+    go (Ok tt) = unfold step_by in (rw (signals_are x h) (unfold blocks_of moving_average_of in refl))
+    go (Err r) = unfold step_by in refl
 
 good_none : T (good [])
 unfolding accepted
@@ -152,8 +151,8 @@ pub state_after_lem : (l : List ReliefRow) → state_after relief_returned relie
 state_after_lem l = rw fresh_is (state_is verdict_of good relief_reading relief_told relief_returned state_of good_none good_more answers moves l)
 
 -- ---- an accepted row's commands are worked from the signals that its past gives
-pub commands_are : (x : ReliefRow) (l : List ReliefRow) → verdict_of (whole.accepted verdict_of l) x ≡ Accepted
-    → (relief_row (state_after relief_returned relief_fresh l) x).answer ≡ Answer.Commands (relief_commands x (signals_of x (whole.accepted verdict_of l)))
+pub commands_are : (x : ReliefRow) (l : List ReliefRow) → verdict_of (whole.accepted verdict_of l) x ≡ Ok tt
+    → (relief_row (state_after relief_returned relief_fresh l) x).answer ≡ Ok (relief_commands x (signals_of x (whole.accepted verdict_of l)))
 unfolding relief_row
 commands_are x l e = rw (state_after_lem l, verdict_is x (whole.accepted verdict_of l) (accepted_good l), e) (unfold step_by in rw (signals_are x (whole.accepted verdict_of l)) refl)
 

@@ -4,7 +4,7 @@ use Rattle.moving_average.specs.declared.lent.Integrator.{Integrator}
 use Rattle.moving_average.specs.Lent.{joined}
 use Rattle.relief_fan_group.specs.declared.types.ReliefBlocks.{ReliefBlocks}
 use Rattle.relief_fan_group.specs.declared.types.ReliefState.{ReliefState}
-use Rattle.relief_fan_group.specs.declared.types.ReliefStep.{ReliefStep}
+use Rattle.relief_fan_group.specs.Step.{ReliefStep}
 use Rattle.relief_fan_group.specs.declared.lent.LentStep.{LentStep}
 
 -- the state that an integrator, the blocks and the two arrays beside them are

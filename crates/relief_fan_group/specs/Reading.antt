@@ -3,7 +3,7 @@ use Rattle.std.specs.Prelude.{Bool, List, [], ◌∷◌, map, Float}
 use Rattle.std.specs.Float.{binary64}
 use Rattle.std.specs.Float.Ieee.{add, sub, lt}
 use Rattle.reals.specs.Constants.{plus_zero}
-use Rattle.refusals.specs.declared.Verdict.{Verdict}
+use Rattle.refusals.specs.Refusals.{Verdict}
 use Rattle.past.specs.Past.{since}
 use Rattle.past.specs.Turns.{pulse}
 use Rattle.past.specs.Acceptance.{verdict_after}

@@ -1,6 +1,5 @@
 -- A fresh state, the state after an accepted row, and a row: its commands and the next state, or its refusal and the old state.
-use Rattle.std.specs.Prelude.{true, not, pos}
-use Rattle.reals.specs.declared.seen.Seen.TheVariants.{Never, At}
+use Rattle.std.specs.Prelude.{true, not, pos, None, Some, Result}
 use Rattle.reals.specs.Constants.{plus_zero, half}
 use Rattle.reals.specs.Four.{each4}
 use Rattle.reals.specs.Threshold.{threshold_above, threshold_below, threshold_update}
@@ -8,17 +7,18 @@ use Rattle.logical.specs.Latch.{latch_new, latch_update}
 use Rattle.logical.specs.Pre.{pre_new, pre_update}
 use Rattle.logical.specs.PresentTimer.{present_timer_new, present_timer_update}
 use Rattle.logical.specs.TrueDelayOnInit.{true_delay_on_init_new}
-use Rattle.refusals.specs.declared.Verdict.{Verdict}
-use Rattle.refusals.specs.declared.Verdict.TheVariants.{Accepted, Refused}
+use Rattle.refusals.specs.declared.Refusal.{Refusal}
+use Rattle.refusals.specs.declared.step.Step.{Step}
+use Rattle.refusals.specs.Refusals.{Verdict}
+use Rattle.refusals.specs.Step.{stepped}
 use Rattle.moving_average.specs.State.{moving_average_new, moving_average_output, moving_average_is_full, moving_average_update}
 use Rattle.relief_fans.specs.Alarms.{alarm_bytes}
 use Rattle.relief_fans.specs.Blocks.{threshold_updates, delay_updates}
+use Rattle.relief_fan_group.specs.declared.types.ReliefCommands.{ReliefCommands}
 use Rattle.relief_fan_group.specs.declared.types.ReliefRow.{ReliefRow}
 use Rattle.relief_fan_group.specs.declared.types.ReliefBlocks.{ReliefBlocks}
 use Rattle.relief_fan_group.specs.declared.types.ReliefState.{ReliefState}
 use Rattle.relief_fan_group.specs.declared.types.ReliefSignals.{ReliefSignals}
-use Rattle.relief_fan_group.specs.declared.types.ReliefAnswer.TheVariants as Answer
-use Rattle.relief_fan_group.specs.declared.types.ReliefStep.{ReliefStep}
 use Rattle.relief_fan_group.specs.Constants.{min_speed, stage_up_level, damper_open, damper_shut, hys, damper_shut_time, stage_up_time, stage_down_time, proof_time}
 use Rattle.relief_fan_group.specs.Verdict.{relief_verdict}
 use Rattle.relief_fan_group.specs.Signals.{relief_signals}
@@ -27,7 +27,7 @@ use Rattle.relief_fan_group.specs.Commands.{relief_commands}
 -- the blocks as `relief_fan_group_trace` makes them, before any row; pre and pre1 start true; the alarms remembered are 0
 unfoldable pub relief_blocks : ReliefBlocks
 relief_blocks = record {
-  last = Never;
+  last = None;
   alarms = each4 (λ i. pos 0);
   gre_thr = threshold_above damper_open hys;
   les_thr = threshold_below damper_shut hys;
@@ -64,7 +64,7 @@ relief_next blocks row signals =
     let down = signals.down in
     let u = control.controller in
     record {
-      last = At t;
+      last = Some t;
       alarms = alarm_bytes row.alarm;
       gre_thr = threshold_update blocks.gre_thr u;
       les_thr = threshold_update blocks.les_thr u;
@@ -92,15 +92,18 @@ relief_next blocks row signals =
 unfoldable pub signals_at : ReliefState → ReliefRow → ReliefSignals
 signals_at state row = relief_signals state.blocks row (moving_average_output state.window row.time row.pressure)
 
+-- a row's answer: the commands of an accepted row, or the refusal; and beside it the state for the next row
+abbrev pub ReliefAnswer : Type 0
+ReliefAnswer = Result ReliefCommands Refusal
+
+abbrev pub ReliefStep : Type 0
+ReliefStep = Step ReliefCommands ReliefState
+
 -- a row that is accepted has its commands and moves the state on; a refused one has the refusal, no command, and hands the old state back
 unfoldable pub step_by : Verdict → ReliefState → ReliefRow → ReliefStep
-step_by Accepted state row =
+step_by verdict state row =
     let signals = signals_at state row in
-    record {
-      answer = Answer.Commands (relief_commands row signals);
-      state = record { window = moving_average_update state.window row.time row.pressure; blocks = relief_next state.blocks row signals };
-    }
-step_by (Refused refusal) state row = record { answer = Answer.Refused refusal; state = state }
+    stepped verdict (relief_commands row signals) (record { window = moving_average_update state.window row.time row.pressure; blocks = relief_next state.blocks row signals }) state
 
 -- a row (document 01, 'What each row refuses'): what its verdict makes of it
 unfoldable pub relief_row : ReliefState → ReliefRow → ReliefStep

@@ -2,7 +2,7 @@
 use Rattle.std.specs.Prelude.{Bool, not, ◌&&◌}
 use Rattle.std.specs.Float.Ieee.Scale.{finite}
 use Rattle.refusals.specs.declared.Refusal.TheVariants.{AlarmOutOfRange, WindowFull}
-use Rattle.refusals.specs.declared.Verdict.{Verdict}
+use Rattle.refusals.specs.Refusals.{Verdict}
 use Rattle.refusals.specs.Refusals.{verdict_or_refused, judge}
 use Rattle.relief_fans.specs.Alarms.{alarms_fit}
 use Rattle.relief_fan_group.specs.declared.types.ReliefRow.{ReliefRow}

@@ -13,31 +13,26 @@ use relief_fans::flags::{any_of, switch_each};
 pub fn fans_on(proof: [bool; 4], up: StageUp, down: StageDown) -> [bool; 4]
     ensures { result ≡ fans_on proof up down }
 {
-    let or2 = up.or2;
-    let xor = down.xor;
-    let log_swi1 = switch_each(down.lat1_y, xor, proof);
+    let log_swi1 = switch_each(down.lat1_y, down.xor, proof);
     let log_swi3 = switch_each(up.all_fans_off, proof, log_swi1);
-    switch_each(up.lat2_y, or2, log_swi3)
+    switch_each(up.lat2_y, up.or2, log_swi3)
 }
 
 #[tactic(auto, unfolding(crate::specs::Commands::relief_commands))]
 pub fn relief_commands(row: ReliefRow, signals: ReliefSignals) -> ReliefCommands
     ensures { result ≡ relief_commands row signals }
 {
-    let proof = row.proof;
-    let alarm = row.alarm;
-    let control = signals.control;
-    let dampers = signals.dampers;
-    let ena_dam = dampers.ena_dam;
-    let up = signals.up;
-    let down = signals.down;
-    let log_swi = fans_on(proof, up, down);
-    let speed_base = switch(control.any_enabled, control.gated_controller, 0.0);
-    let log_swi2 = switch_each(any_of(log_swi), log_swi, ena_dam);
+    let log_swi = fans_on(row.proof, signals.up, signals.down);
+    let speed_base = switch(
+        signals.control.any_enabled,
+        signals.control.gated_controller,
+        0.0,
+    );
+    let log_swi2 = switch_each(any_of(log_swi), log_swi, signals.dampers.ena_dam);
     let speeds = fan_speed(speed_base, log_swi);
-    let opened = damper(log_swi2, alarm, proof);
+    let opened = damper(log_swi2, row.alarm, row.proof);
     ReliefCommands {
-        averaged_pressure: control.average,
+        averaged_pressure: signals.control.average,
         fan_speed_1: speeds[0],
         fan_speed_2: speeds[1],
         fan_speed_3: speeds[2],

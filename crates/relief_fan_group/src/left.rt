@@ -9,15 +9,9 @@ use crate::types::{ReliefBlocks, ReliefLeft, ReliefSignals};
 pub fn relief_left(blocks: ReliefBlocks, signals: ReliefSignals) -> ReliefLeft
     ensures { result ≡ relief_left blocks signals }
 {
-    let dampers = signals.dampers;
-    let up = signals.up;
-    let down = signals.down;
-    let tim = dampers.tim;
-    let up_tim = up.up_tim;
-    let dow_tim = down.dow_tim;
     ReliefLeft {
-        tim: tim.left(blocks.tim.threshold),
-        up_tim: up_tim.left(blocks.up_tim.threshold),
-        dow_tim: dow_tim.left(blocks.dow_tim.threshold),
+        tim: signals.dampers.tim.left(blocks.tim.threshold),
+        up_tim: signals.up.up_tim.left(blocks.up_tim.threshold),
+        dow_tim: signals.down.dow_tim.left(blocks.dow_tim.threshold),
     }
 }

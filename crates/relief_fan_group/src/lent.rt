@@ -9,7 +9,6 @@ use crate::step::relief_next;
 use crate::types::{ReliefAnswer, ReliefBlocks, ReliefRow};
 use crate::verdict::relief_verdict;
 use moving_average::lent::Integrator;
-use refusals::Verdict;
 
 // `ReliefStep` without the window's arrays.
 #[derive(Clone, Copy)]
@@ -31,23 +30,19 @@ pub fn relief_row_lent(
     requires { (length times.old ≡ 512) × (length integrals.old ≡ 512) }
     ensures { lent_step result times.new integrals.new ≡ relief_row (lent_state integrator blocks times.old integrals.old) row }
 {
-    let time = row.time;
-    let pressure = row.pressure;
-    let full = integrator.is_full(times, time);
-    let verdict = relief_verdict(blocks, row, full);
+    let full = integrator.is_full(times, row.time);
     // The old blocks stand until the row is accepted. A copy of its own in each case would make every row copy the unused bytes between the fields.
     let mut stored = integrator;
     let mut next = blocks;
-    let answer = match verdict {
-        Verdict::Accepted => {
-            let average = integrator.output(times, integrals, time, pressure);
+    let answer = match relief_verdict(blocks, row, full) {
+        Ok(()) => {
+            let average = integrator.output(times, integrals, row.time, row.pressure);
             let signals = relief_signals(blocks, row, average);
-            let commands = relief_commands(row, signals);
-            stored = integrator.update(times, integrals, time, pressure);
+            stored = integrator.update(times, integrals, row.time, row.pressure);
             next = relief_next(blocks, row, signals);
-            ReliefAnswer::Commands(commands)
+            Ok(relief_commands(row, signals))
         }
-        Verdict::Refused(refusal) => ReliefAnswer::Refused(refusal),
+        Err(refusal) => Err(refusal),
     };
     LentStep {
         answer,

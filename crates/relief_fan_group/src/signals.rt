@@ -26,14 +26,12 @@ pub fn pressure_loop(average: f64) -> f64
 pub fn pressure_control(blocks: ReliefBlocks, row: ReliefRow, average: f64) -> PressureControl
     ensures { result ≡ pressure_control blocks row average }
 {
-    let supply = row.supply;
-    let gre_thr3 = blocks.gre_thr3;
-    let ena_rel_group = supply[0] | supply[1];
-    let ena_rel = ena_rel(supply);
+    let ena_rel_group = row.supply[0] | row.supply[1];
+    let ena_rel = ena_rel(row.supply);
     let gai = gai(ena_rel);
     let controller = pressure_loop(average);
     let gated_controller = bool_to_real(ena_rel_group) * limit(controller, REL_FAN_SPEED_MIN, 1.0);
-    let any_enabled = any_of(threshold_outputs(gre_thr3, ena_rel));
+    let any_enabled = any_of(threshold_outputs(blocks.gre_thr3, ena_rel));
     PressureControl {
         average,
         controller,
@@ -51,17 +49,11 @@ pub fn damper_enable(blocks: ReliefBlocks, row: ReliefRow, control: PressureCont
     ensures { result ≡ damper_enable blocks row control }
 {
     let t = row.time;
-    let gai = control.gai;
-    let gre_thr = blocks.gre_thr;
-    let les_thr = blocks.les_thr;
-    let tim = blocks.tim;
-    let lat = blocks.lat;
-    let gre_thr1 = blocks.gre_thr1;
-    let damper_open = gre_thr.output(control.controller) & control.ena_rel_group;
-    let damper_close_request = les_thr.output(control.controller);
-    let tim = tim.output(t, damper_close_request);
-    let lat_y = lat.output(damper_open, tim.passed);
-    let ena_dam = and_each(threshold_outputs(gre_thr1, gai), lat_y);
+    let damper_open = blocks.gre_thr.output(control.controller) & control.ena_rel_group;
+    let damper_close_request = blocks.les_thr.output(control.controller);
+    let tim = blocks.tim.output(t, damper_close_request);
+    let lat_y = blocks.lat.output(damper_open, tim.passed);
+    let ena_dam = and_each(threshold_outputs(blocks.gre_thr1, control.gai), lat_y);
     DamperEnable {
         damper_open,
         damper_close_request,
@@ -76,26 +68,19 @@ pub fn stage_up(blocks: ReliefBlocks, row: ReliefRow, control: PressureControl) 
     ensures { result ≡ stage_up blocks row control }
 {
     let t = row.time;
-    let proof = row.proof;
-    let gai = control.gai;
-    let ena_rel = control.ena_rel;
-    let les_thr1 = blocks.les_thr1;
-    let les_thr2 = blocks.les_thr2;
-    let tru_del = blocks.tru_del;
-    let gre_thr2 = blocks.gre_thr2;
-    let pre = blocks.pre;
-    let up_tim = blocks.up_tim;
-    let lat2 = blocks.lat2;
-    let all_fans_off = all_of(not_each(proof));
-    let pro1 = pro1(gai, ena_rel, proof);
-    let swi = swi(threshold_outputs(les_thr1, pro1), pro1);
+    let all_fans_off = all_of(not_each(row.proof));
+    let pro1 = pro1(control.gai, control.ena_rel, row.proof);
+    let swi = swi(threshold_outputs(blocks.les_thr1, pro1), pro1);
     let next_stage_order = smallest(swi3(all_fans_off, pro1, swi));
-    let up_distance = distance(gai, next_stage_order);
-    let or2 = or_each(threshold_outputs(les_thr2, up_distance), proof);
-    let all_newly_started_proven = all_of(equal_each(delay_outputs(tru_del, t, or2), proof));
-    let up_gate = gre_thr2.output(control.controller) & pre.output();
-    let up_tim = up_tim.output(t, up_gate);
-    let lat2_y = lat2.output(up_tim.passed, all_newly_started_proven);
+    let up_distance = distance(control.gai, next_stage_order);
+    let or2 = or_each(threshold_outputs(blocks.les_thr2, up_distance), row.proof);
+    let all_newly_started_proven = all_of(equal_each(
+        delay_outputs(blocks.tru_del, t, or2),
+        row.proof,
+    ));
+    let up_gate = blocks.gre_thr2.output(control.controller) & blocks.pre.output();
+    let up_tim = blocks.up_tim.output(t, up_gate);
+    let lat2_y = blocks.lat2.output(up_tim.passed, all_newly_started_proven);
     StageUp {
         all_fans_off,
         pro1,
@@ -114,24 +99,15 @@ pub fn stage_down(blocks: ReliefBlocks, row: ReliefRow, control: PressureControl
     ensures { result ≡ stage_down blocks row control }
 {
     let t = row.time;
-    let proof = row.proof;
-    let gai = control.gai;
-    let les_thr4 = blocks.les_thr4;
-    let les_thr5 = blocks.les_thr5;
-    let tru_del1 = blocks.tru_del1;
-    let les_thr3 = blocks.les_thr3;
-    let pre1 = blocks.pre1;
-    let dow_tim = blocks.dow_tim;
-    let lat1 = blocks.lat1;
-    let pro2 = pro2(gai, proof);
-    let next_down_order = smallest(swi(threshold_outputs(les_thr4, pro2), pro2));
-    let down_distance = distance(gai, next_down_order);
-    let xor = xor_each(threshold_outputs(les_thr5, down_distance), proof);
+    let pro2 = pro2(control.gai, row.proof);
+    let next_down_order = smallest(swi(threshold_outputs(blocks.les_thr4, pro2), pro2));
+    let down_distance = distance(control.gai, next_down_order);
+    let xor = xor_each(threshold_outputs(blocks.les_thr5, down_distance), row.proof);
     let not5 = not_each(xor);
-    let all_stopped_matches = all_of(xor_each(proof, delay_outputs(tru_del1, t, not5)));
-    let down_gate = les_thr3.output(control.controller) & pre1.output();
-    let dow_tim = dow_tim.output(t, down_gate);
-    let lat1_y = lat1.output(dow_tim.passed, all_stopped_matches);
+    let all_stopped_matches = all_of(xor_each(row.proof, delay_outputs(blocks.tru_del1, t, not5)));
+    let down_gate = blocks.les_thr3.output(control.controller) & blocks.pre1.output();
+    let dow_tim = blocks.dow_tim.output(t, down_gate);
+    let lat1_y = blocks.lat1.output(dow_tim.passed, all_stopped_matches);
     StageDown {
         pro2,
         down_distance,

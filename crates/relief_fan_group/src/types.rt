@@ -5,9 +5,9 @@ use logical::present_timer::PresentTimerState;
 use logical::timer::TimerOutput;
 use logical::true_delay_on_init::TrueDelayOnInitState;
 use moving_average::state::MovingAverageState;
-use reals::seen::Seen;
 use reals::threshold::ThresholdState;
 use refusals::Refusal;
+use refusals::step::Step;
 
 // A sampled row: its time in seconds, and `Inputs`. The pressure in pascal, an alarm's level, a flag for each fan.
 #[derive(Clone, Copy)]
@@ -22,7 +22,7 @@ pub struct ReliefRow {
 // The blocks of `relief_fan_group_trace` but its moving average, and of the last accepted row the time, and the alarm of each fan in a signed byte.
 #[derive(Clone, Copy)]
 pub struct ReliefBlocks {
-    pub last: Seen,
+    pub last: Option<f64>,
     pub alarms: [i8; 4],
     pub gre_thr: ThresholdState,
     pub les_thr: ThresholdState,
@@ -118,13 +118,6 @@ pub struct ReliefLeft {
     pub dow_tim: f64,
 }
 
-// The alarm that a state remembers of a fan; there are four fans.
-#[derive(Clone, Copy)]
-pub enum RememberedAlarm {
-    Alarm(i64),
-    NoFan,
-}
-
 // The outputs, in the order of `Trace`.
 #[derive(Clone, Copy)]
 pub struct ReliefCommands {
@@ -140,15 +133,7 @@ pub struct ReliefCommands {
 }
 
 // A row's answer: the commands of an accepted row, or the refusal.
-#[derive(Clone, Copy)]
-pub enum ReliefAnswer {
-    Commands(ReliefCommands),
-    Refused(Refusal),
-}
+pub type ReliefAnswer = Result<ReliefCommands, Refusal>;
 
 // A row's answer, and the state for the next row.
-#[derive(Clone, Copy)]
-pub struct ReliefStep {
-    pub answer: ReliefAnswer,
-    pub state: ReliefState,
-}
+pub type ReliefStep = Step<ReliefCommands, ReliefState>;

@@ -16,15 +16,16 @@ pub fn numbers_finite(row: ReliefRow) -> bool
 }
 
 // Refusals 1, 2 and 3; 11 where an alarm does not fit its byte; 4 where the window is full for the row's time.
-#[tactic(auto, unfolding(crate::specs::Verdict::relief_verdict, crate::specs::Verdict::after_judged))]
+#[tactic(auto, unfolding(crate::specs::Verdict::relief_verdict, crate::specs::Verdict::after_judged, refusals::specs::Refusals::verdict_or_refused))]
 pub fn relief_verdict(blocks: ReliefBlocks, row: ReliefRow, full: bool) -> Verdict
     ensures { result ≡ relief_verdict blocks row full }
 {
-    let time = row.time;
-    let alarm = row.alarm;
-    let last = blocks.last;
-    let judged = judge(numbers_finite(row), time, last);
-    let unfit = !alarms_fit(alarm);
-    let ranged = judged.or_refused(unfit, Refusal::AlarmOutOfRange);
-    ranged.or_refused(full, Refusal::WindowFull)
+    judge(numbers_finite(row), row.time, blocks.last)?;
+    if !alarms_fit(row.alarm) {
+        return Err(Refusal::AlarmOutOfRange);
+    }
+    if full {
+        return Err(Refusal::WindowFull);
+    }
+    Ok(())
 }

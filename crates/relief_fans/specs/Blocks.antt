@@ -1,8 +1,7 @@
 -- A threshold (CDL.Reals.GreaterThreshold, LessThreshold), or a delay (CDL.Logical.TrueDelay with delayOnInit=true), for each of the four fans.
-use Rattle.std.specs.Prelude.{ℕ, Bool, false, List, get_or, Float}
+use Rattle.std.specs.Prelude.{ℕ, Bool, false, List, get_or, Float, None}
 use Rattle.std.specs.Float.{nan}
 use Rattle.reals.specs.Four.{real, flag, each4}
-use Rattle.reals.specs.declared.seen.Seen.TheVariants.{Never}
 use Rattle.reals.specs.declared.threshold.ThresholdMode.TheVariants.{Greater}
 use Rattle.reals.specs.declared.threshold.ThresholdState.{ThresholdState}
 use Rattle.reals.specs.Threshold.{threshold_output, threshold_update}
@@ -14,7 +13,7 @@ abbrev pub threshold_at : List ThresholdState → ℕ → ThresholdState
 threshold_at blocks i = get_or blocks i (record { threshold = nan; hysteresis = nan; previous = false; mode = Greater })
 
 abbrev pub delay_at : List TrueDelayOnInitState → ℕ → TrueDelayOnInitState
-delay_at blocks i = get_or blocks i (record { delay_time = nan; entry_time = Never; previous_u = false })
+delay_at blocks i = get_or blocks i (record { delay_time = nan; entry_time = None; previous_u = false })
 
 -- each fan's block with that fan's input
 abbrev pub threshold_output_at : List ThresholdState → List Float → ℕ → Bool

@@ -2,7 +2,7 @@
 use Rattle.std.specs.Prelude.{ℕ, Bool, true, false, not, ◌&&◌, ◌||◌, List}
 use Rattle.std.specs.Bool.{beq}
 use Rattle.reals.specs.Four.{flag, each4, fold4}
-use Rattle.logical.specs.Switch.{logical_switch}
+use Rattle.reals.specs.Switch.{switch}
 
 abbrev pub not_at : List Bool → ℕ → Bool
 not_at a i = not (flag a i)
@@ -37,7 +37,7 @@ unfoldable pub xor_each : List Bool → List Bool → List Bool
 xor_each a b = each4 (xor_at a b)
 
 abbrev pub switch_at : Bool → List Bool → List Bool → ℕ → Bool
-switch_at u a b i = logical_switch u (flag a i) (flag b i)
+switch_at u a b i = switch u (flag a i) (flag b i)
 
 unfoldable pub switch_each : Bool → List Bool → List Bool → List Bool
 switch_each u a b = each4 (switch_at u a b)

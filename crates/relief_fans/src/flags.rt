@@ -2,7 +2,7 @@
 ghost use Rattle.std.specs.Prelude.{◌≡◌};
 ghost use Rattle.relief_fans.specs.Flags.{not_each, or_each, and_each, xor_each, equal_each, switch_each, all_of, any_of};
 
-use logical::switch::logical_switch;
+use reals::switch::switch;
 use std::array;
 
 #[tactic(auto, unfolding(crate::specs::Flags::not_each))]
@@ -46,7 +46,7 @@ pub fn equal_each(a: [bool; 4], b: [bool; 4]) -> [bool; 4]
 pub fn switch_each(u: bool, a: [bool; 4], b: [bool; 4]) -> [bool; 4]
     ensures { result ≡ switch_each u a b }
 {
-    array::from_fn(|i| logical_switch(u, a[i], b[i]))
+    array::from_fn(|i| switch(u, a[i], b[i]))
 }
 
 #[tactic(auto, unfolding(crate::specs::Flags::all_of))]

@@ -1,6 +1,6 @@
 -- Relief lines (document 01, 'Row lines'): time first, then the record's fields in order, arrays by index; the answer is the status, the mean, four speeds and
 -- four dampers, or the status alone.
-use Rattle.std.specs.Prelude.{ℕ, List, [], ◌∷◌, false, eqb, pos, get_or}
+use Rattle.std.specs.Prelude.{ℕ, List, [], ◌∷◌, false, eqb, pos, get_or, Ok, Err}
 use Rattle.std.specs.Float.{binary64}
 use Rattle.std.specs.Float.Ieee.{of_bits, to_bits}
 use Rattle.columns.specs.Forms.{float, yes_no, signed, unsigned}
@@ -12,8 +12,7 @@ use Rattle.refusals.specs.Refusals.{refusal_number}
 use Rattle.relief_fan_group.specs.declared.types.ReliefRow.{ReliefRow}
 use Rattle.relief_fan_group.specs.declared.types.ReliefState.{ReliefState}
 use Rattle.relief_fan_group.specs.declared.types.ReliefCommands.{ReliefCommands}
-use Rattle.relief_fan_group.specs.declared.types.ReliefAnswer.{ReliefAnswer}
-use Rattle.relief_fan_group.specs.declared.types.ReliefAnswer.TheVariants as answer
+use Rattle.relief_fan_group.specs.Step.{ReliefAnswer}
 use Rattle.relief_fan_group.specs.Verdict.{numbers_finite}
 use Rattle.relief_fan_group.specs.Step.{relief_row}
 
@@ -97,8 +96,8 @@ relief_command_words commands =
 
 -- the words of an answer: the number of a refusal alone
 unfoldable pub relief_answer_words : ReliefAnswer → List ℕ
-relief_answer_words (answer.Commands commands) = relief_command_words commands
-relief_answer_words (answer.Refused refusal) = refusal_number refusal ∷ []
+relief_answer_words (Ok commands) = relief_command_words commands
+relief_answer_words (Err refusal) = refusal_number refusal ∷ []
 
 -- ---- the kind
 

@@ -139,8 +139,8 @@ fn answer_words(answer: ReliefAnswer) -> Words
     ensures { result ≡ word_list (relief_answer_words answer) }
 {
     match answer {
-        ReliefAnswer::Commands(commands) => command_words(commands),
-        ReliefAnswer::Refused(refusal) => {
+        Ok(commands) => command_words(commands),
+        Err(refusal) => {
             let number = refusal.number();
             status_alone(number)
         }

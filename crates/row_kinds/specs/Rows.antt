@@ -1,7 +1,6 @@
 -- The reader of the three kinds: `Reader` with the state of each kind as one arm of a sum; and the reader that the code carries from chunk to chunk, with the
 -- arrays of the relief window beside it.
-use Rattle.std.specs.Prelude.{ℕ, ◌+◌, ◌*◌, ◌≤◌, ◌≡◌, List, Bool, true, false, Float, length, drop}
-use Rattle.reals.specs.declared.seen.Seen.TheVariants.{Never}
+use Rattle.std.specs.Prelude.{ℕ, ◌+◌, ◌*◌, ◌≤◌, ◌≡◌, List, Bool, true, false, Float, length, drop, None}
 use Rattle.reals.specs.Constants.{plus_zero}
 use Rattle.columns.specs.Column.{Wrote}
 use Rattle.columns.specs.Line.{status_line}
@@ -146,7 +145,7 @@ with_rows Stopped c = with_phase phase.Stopped c
 
 -- the integrator of an empty window
 unfoldable pub no_points : Integrator
-no_points = record { t_start = plus_zero; prev_t = Never; mu = plus_zero; count = 0 }
+no_points = record { t_start = plus_zero; prev_t = None; mu = plus_zero; count = 0 }
 
 -- a reader at a phase, with the fresh state of each kind
 unfoldable pub fresh_at : Phase → RowReader

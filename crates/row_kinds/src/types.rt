@@ -8,7 +8,6 @@ use economizer_controller::types::EconomizerState;
 use freeze_protection::step::freeze_fresh;
 use freeze_protection::types::FreezeState;
 use moving_average::lent::Integrator;
-use reals::seen::Seen;
 use relief_fan_group::step::relief_blocks;
 use relief_fan_group::types::ReliefBlocks;
 
@@ -36,7 +35,7 @@ pub fn no_points() -> Integrator
 {
     Integrator {
         t_start: 0.0,
-        prev_t: Seen::Never,
+        prev_t: None,
         mu: 0.0,
         count: 0,
     }

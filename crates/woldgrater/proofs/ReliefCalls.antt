@@ -2,7 +2,7 @@
 use mathlib.Core.Path.{◌≡◌, ap, ◌∙◌}
 use mathlib.Core.List.{List}
 use lib.Ieee.{Float}
-use Rattle.relief_fan_group.specs.declared.types.ReliefStep.{ReliefStep}
+use Rattle.relief_fan_group.specs.Step.{ReliefStep}
 use Rattle.relief_fan_group.specs.declared.lent.LentStep.{LentStep}
 use Rattle.relief_fan_group.specs.Lent.{lent_step}
 use Rattle.block_words.specs.Integrator.{integrator_words}

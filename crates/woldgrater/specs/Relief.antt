@@ -1,12 +1,11 @@
 -- What a caller of the relief fan group gets, a call a row: its words for the answers of `relief_row`.
-use Rattle.std.specs.Prelude.{List, Float}
+use Rattle.std.specs.Prelude.{List, Float, Ok, Err}
 use Rattle.refusals.specs.Refusals.{refusal_number}
 use Rattle.moving_average.specs.declared.lent.Integrator.{Integrator}
 use Rattle.moving_average.specs.declared.state.MovingAverageState.{MovingAverageState}
 use Rattle.relief_fan_group.specs.declared.types.ReliefState.{ReliefState}
-use Rattle.relief_fan_group.specs.declared.types.ReliefAnswer.{ReliefAnswer}
-use Rattle.relief_fan_group.specs.declared.types.ReliefAnswer.TheVariants as answer
-use Rattle.relief_fan_group.specs.declared.types.ReliefStep.{ReliefStep}
+use Rattle.relief_fan_group.specs.Step.{ReliefAnswer}
+use Rattle.relief_fan_group.specs.Step.{ReliefStep}
 use Rattle.relief_fan_group.specs.Lent.{lent_state}
 use Rattle.block_words.specs.Integrator.{integrator_words, integrator_of}
 use Rattle.relief_words.specs.ReliefBlocks.{relief_blocks_words, relief_blocks_of}
@@ -41,8 +40,8 @@ relief_in m = lent_state (integrator_of m.words.integrator) (relief_blocks_of m.
 
 -- status 0 and the commands of an accepted row; the number of a refused one's refusal, and commands that are all 0
 unfoldable pub relief_answered : ReliefAnswer → ReliefAnswered
-relief_answered (answer.Commands commands) = record { status = 0; commands = relief_commands_words commands }
-relief_answered (answer.Refused refusal) = record { status = refusal_number refusal; commands = relief_commands_zero }
+relief_answered (Ok commands) = record { status = 0; commands = relief_commands_words commands }
+relief_answered (Err refusal) = record { status = refusal_number refusal; commands = relief_commands_zero }
 
 -- what a call leaves: the memory for the next one, the status and the commands
 pub record ReliefCalled : Type 0 where

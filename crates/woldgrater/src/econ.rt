@@ -42,11 +42,11 @@ fn economizer_answered(answer: EconomizerAnswer) -> EconomizerAnswered
     ensures { result ≡ economizer_answered answer }
 {
     match answer {
-        EconomizerAnswer::Commands(commands) => EconomizerAnswered {
+        Ok(commands) => EconomizerAnswered {
             status: 0,
             commands: EconomizerCommandsWords::of(commands),
         },
-        EconomizerAnswer::Refused(refusal) => EconomizerAnswered {
+        Err(refusal) => EconomizerAnswered {
             status: refusal.number(),
             commands: EconomizerCommandsWords::zero(),
         },

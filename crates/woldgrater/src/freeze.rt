@@ -41,11 +41,11 @@ fn freeze_answered(answer: FreezeAnswer) -> FreezeAnswered
     ensures { result ≡ freeze_answered answer }
 {
     match answer {
-        FreezeAnswer::Commands(commands) => FreezeAnswered {
+        Ok(commands) => FreezeAnswered {
             status: 0,
             commands: FreezeCommandsWords::of(commands),
         },
-        FreezeAnswer::Refused(refusal) => FreezeAnswered {
+        Err(refusal) => FreezeAnswered {
             status: refusal.number(),
             commands: FreezeCommandsWords::zero(),
         },

@@ -64,11 +64,11 @@ fn relief_answered(answer: ReliefAnswer) -> ReliefAnswered
     ensures { result ≡ relief_answered answer }
 {
     match answer {
-        ReliefAnswer::Commands(commands) => ReliefAnswered {
+        Ok(commands) => ReliefAnswered {
             status: 0,
             commands: ReliefCommandsWords::of(commands),
         },
-        ReliefAnswer::Refused(refusal) => ReliefAnswered {
+        Err(refusal) => ReliefAnswered {
             status: refusal.number(),
             commands: ReliefCommandsWords::zero(),
         },

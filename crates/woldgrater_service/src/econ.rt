@@ -17,7 +17,6 @@ use econ_words::economizer_row::EconomizerRowWords;
 use econ_words::economizer_signals::EconomizerSignalsWords;
 use economizer_controller::step::economizer_signals;
 use economizer_controller::verdict::economizer_verdict;
-use refusals::Verdict;
 
 // The status of a row, and what the commands of an accepted one are worked from.
 #[repr(C)]
@@ -37,14 +36,14 @@ pub fn woldgrater_econ_signals(state: EconomizerWords, row: EconomizerRowWords) 
     let sampled = row.value();
     let verdict = economizer_verdict(held, sampled);
     match verdict {
-        Verdict::Accepted => {
+        Ok(()) => {
             let signals = economizer_signals(held, sampled);
             EconomizerShown {
                 status: 0,
                 signals: EconomizerSignalsWords::of(signals),
             }
         }
-        Verdict::Refused(refusal) => EconomizerShown {
+        Err(refusal) => EconomizerShown {
             status: refusal.number(),
             signals: EconomizerSignalsWords::zero(),
         },

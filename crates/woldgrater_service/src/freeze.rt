@@ -19,7 +19,6 @@ use freeze_words::freeze::FreezeWords;
 use freeze_words::freeze_left::FreezeLeftWords;
 use freeze_words::freeze_row::FreezeRowWords;
 use freeze_words::freeze_signals::FreezeSignalsWords;
-use refusals::Verdict;
 
 // The status of a row, and what the commands of an accepted one are worked from.
 // Beside it the seconds left on its timers.
@@ -43,7 +42,7 @@ pub fn woldgrater_freeze_signals(state: FreezeWords, row: FreezeRowWords) -> Fre
     let sampled = row.value();
     let verdict = freeze_verdict(held, sampled);
     match verdict {
-        Verdict::Accepted => {
+        Ok(()) => {
             let signals = freeze_signals(held, sampled);
             let left = freeze_left(held, signals);
             FreezeShown {
@@ -52,7 +51,7 @@ pub fn woldgrater_freeze_signals(state: FreezeWords, row: FreezeRowWords) -> Fre
                 left: FreezeLeftWords::of(left),
             }
         }
-        Verdict::Refused(refusal) => FreezeShown {
+        Err(refusal) => FreezeShown {
             status: refusal.number(),
             signals: FreezeSignalsWords::zero(),
             left: FreezeLeftWords::zero(),

@@ -12,11 +12,10 @@ ghost use Rattle.woldgrater_service.specs.Shown.{relief_shown, alarm_given};
 
 use crate::line::{LineGiven, line_given};
 use moving_average::lent::Integrator;
-use refusals::Verdict;
 use relief_fan_group::left::relief_left;
 use relief_fan_group::remembered::relief_alarm;
 use relief_fan_group::signals::relief_signals;
-use relief_fan_group::types::{ReliefBlocks, ReliefRow, RememberedAlarm};
+use relief_fan_group::types::{ReliefBlocks, ReliefRow};
 use relief_fan_group::verdict::relief_verdict;
 use relief_lines::relief::write_relief_row;
 use relief_words::relief_left::ReliefLeftWords;
@@ -52,7 +51,7 @@ fn relief_shown<'a>(
     let full = integrator.is_full(times, time);
     let verdict = relief_verdict(blocks, row, full);
     match verdict {
-        Verdict::Accepted => {
+        Ok(()) => {
             let average = integrator.output(times, integrals, time, pressure);
             let signals = relief_signals(blocks, row, average);
             let left = relief_left(blocks, signals);
@@ -62,7 +61,7 @@ fn relief_shown<'a>(
                 left: ReliefLeftWords::of(left),
             }
         }
-        Verdict::Refused(refusal) => ReliefShown {
+        Err(refusal) => ReliefShown {
             status: refusal.number(),
             signals: ReliefSignalsWords::zero(),
             left: ReliefLeftWords::zero(),
@@ -99,12 +98,12 @@ pub struct AlarmGiven {
 }
 
 #[tactic(auto, unfolding(crate::specs::Shown::alarm_given))]
-fn alarm_given(remembered: RememberedAlarm) -> AlarmGiven
+fn alarm_given(remembered: Option<i64>) -> AlarmGiven
     ensures { result ≡ alarm_given remembered }
 {
     match remembered {
-        RememberedAlarm::Alarm(alarm) => AlarmGiven { known: 1, alarm },
-        RememberedAlarm::NoFan => AlarmGiven { known: 0, alarm: 0 },
+        Some(alarm) => AlarmGiven { known: 1, alarm },
+        None => AlarmGiven { known: 0, alarm: 0 },
     }
 }
 

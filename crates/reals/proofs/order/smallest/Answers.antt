@@ -1,14 +1,15 @@
--- `smallest`: after i turns the least is that of the first i values.
-use Rattle.reals.specs.Order.{smallest}
-use Rattle.reals.proofs.Four.{begin, step, ends}
+-- `smallest`: the fold over the four values, as four steps.
+use Rattle.std.proofs.Common.{rules, ◌≡◌, ◌∙◌, length}
+use Rattle.std.specs.Float.{nan}
+use Rattle.std.specs.Float.Ieee.{div, of_bits}
+use Rattle.std.specs.List.{fold}
+use Rattle.reals.specs.Order.{lesser, infinity, smallest}
+use Rattle.reals.proofs.Four.{folded}
 use Rattle.reals.proofs.order.smallest.Goals as goal
 
-pub loop-i-init : goal.loop-i-init
-loop-i-init c = begin _ _
-
-pub loop-i-preserved : goal.loop-i-preserved
-loop-i-preserved c = step c.loop-i.invariant c.loop-i-test.true c.lesser-least.ensures
-
 pub returns : goal.returns
-unfolding smallest
-returns c = ends c.loop-i.invariant c.loop-i-test.false
+unfolding smallest div of_bits
+returns c =
+    let e : c.fold.result ≡ fold lesser infinity c.args.values = search rules in
+    let l : length c.args.values ≡ 4 = search rules in
+    e ∙ folded lesser infinity c.args.values nan l

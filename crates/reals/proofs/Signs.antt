@@ -1,4 +1,5 @@
--- `is_sign_negative` meets its contract: a number below 0 has its sign bit set, and 1 / x tells the two zeros apart. Assumes nothing.
+-- What tells a number's kind and its sign bit: x − x is 0 exactly where x is finite; a number below 0 has its sign bit set, and 1 / x tells the two zeros apart.
+-- Assumes nothing.
 use Prim.Native.Nat.{ℕ, zero, suc, ◌+◌, ◌*◌}
 use native.Mathlib.Nat.{mul-pos, mul-one, zero-mul, zero-lt-suc}
 use native.Mathlib.Omega.{arith}
@@ -6,14 +7,21 @@ use mathlib.Core.Path.{◌≡◌, refl}
 use mathlib.Core.Bool.{Bool, true, false, ◌||◌}
 use lib.Dec.{T, eqb-suc-zero}
 use lib.IntN.{ℤ, pos}
-use lib.Ieee.{Float, nan, inf, fin, binary64, up, down, div, lt, round, of_bits}
+use lib.Ieee.{Float, nan, inf, fin, binary64, up, down, div, sub, eq, lt, round, of_bits}
 use lib.Ieee.Fits.{up_pos}
+use lib.Ieee.Scale.{finite}
 use borrow.Author.Tests.{lt-ltb}
 use Rattle.reals.specs.Constants.{plus_zero, one}
 use Rattle.reals.specs.Sign.{is_sign_negative}
 use Rattle.reals.proofs.Round.{plain, zero_is, plain_not_below, round_plain}
-use Rattle.reals.proofs.sign.is_sign_negative.Statement.{statement}
-use Rattle.reals.proofs.sign.is_sign_negative.Tie as tie
+use Rattle.reals.proofs.Times.{self_gap}
+
+pub self_gap_zero : (x : Float) → eq (sub binary64 x x) plus_zero ≡ finite x
+unfolding sub eq
+self_gap_zero nan = refl
+self_gap_zero (inf true) = refl
+self_gap_zero (inf false) = refl
+self_gap_zero (fin s m e) = rw (self_gap (fin s m e) tt) (unfold of_bits in refl)
 
 below_zero : (m : ℕ) (e : ℤ) → lt (fin true (suc m) e) (fin false 0 (pos 0)) ≡ true
 unfolding lt
@@ -41,11 +49,5 @@ one_is : one ≡ fin false 1 (pos 0)
 unfolding of_bits
 one_is = refl
 
-sign_told : (x : Float) → (lt x plus_zero || lt (div binary64 one x) plus_zero) ≡ is_sign_negative x
+pub sign_told : (x : Float) → (lt x plus_zero || lt (div binary64 one x) plus_zero) ≡ is_sign_negative x
 sign_told x = rw (zero_is, one_is) (told x)
-
-returns : tie.Need-returns
-returns c = sign_told c.args.x
-
-pub is_sign_negative_spec : {M : Type 1} → statement M
-is_sign_negative_spec = tie.close (tie.spec returns)
