@@ -1,14 +1,16 @@
 -- The start, a turn and the end of each loop over the window's arrays, as laws of lists. Assumes nothing.
-use Prim.Native.Nat.{ℕ, suc, ◌+◌, ◌<◌, ◌≤◌}
-use mathlib.Core.Path.{◌≡◌, sym, ap, ◌∙◌}
-use mathlib.Core.Bool.{Bool, true, false, cond}
+use Prim.Native.Nat.{ℕ, zero, suc, ◌+◌, ◌-◌, ◌<◌, ◌≤◌}
+use mathlib.Core.Logic.{◌⊎◌, inl, inr}
+use mathlib.Core.Path.{◌≡◌, refl, sym, ap, ◌∙◌}
+use mathlib.Core.Bool.{cond}
 use mathlib.Core.List.{List, [], ◌∷◌, ◌++◌, zip_with, append_assoc}
 use native.Mathlib.Nat.{zero-add, add_comm}
 use native.Mathlib.Numerals.{add-one}
 use native.Mathlib.Omega.{arith}
-use lib.ListN.{length, take, drop, get_or, set, length-append, length-drop, length-take, drop_of_length-le}
-use lib.Seq.{length-take-le, get_or-append-add, get_or-drop, paste-suc, set_at, drop-cons, slice, slice-cons, length-slice}
+use lib.ListN.{length, take, drop, get_or, set, length-append, length-drop}
+use lib.Seq.{length-take-le, get_or-append-add, get_or-drop, paste-suc, set_at, drop-cons, slice, length-slice}
 use lib.Ieee.{Float, nan, le}
+use Rattle.std.proofs.lemmas.List.Sums.{prefix_len-le-length}
 use Rattle.moving_average.specs.Window.{Point, point}
 use Rattle.moving_average.specs.Integral.{on_line, integral_after, integral_at}
 use Rattle.moving_average.specs.State.{written}
@@ -44,55 +46,31 @@ module _ (a : List Float) (k j : ℕ) (h : k + j ≤ length a) where
       let e : length (take j (drop k a) ++ (x ∷ [])) ≡ suc j = length-append (take j (drop k a)) (x ∷ []) ∙ rw (front_length a k j h, add-one) in
       rw (front_length a k j h, drop-cons a j nan l, set_at (take j (drop k a)) (get_or a j nan) (drop (suc j) a) x j (front_length a k j h), e, append_assoc)
 
--- ---- `old_points`
-slice_end : (i n : ℕ) (l : List Float) → n ≤ i → slice i n l ≡ []
-slice_end i n l h = drop_of_length-le (take n l) {i = i} (omega (arith, length-take n l))
-
-pub leading_turn : (c : Float) (ts : List Float) (n k : ℕ) → k < n → n ≤ length ts → leading c (slice k n ts) ≡ cond (le (get_or ts k nan) c) (suc (leading c (slice (k + 1) n ts))) 0
-unfolding leading
-leading_turn c ts n k h l = rw (slice-cons k n ts nan h l, add-one)
-
-pub leading_end : (c : Float) (ts : List Float) (n k : ℕ) → n ≤ k → leading c (slice k n ts) ≡ 0
-unfolding leading
-leading_end c ts n k h = rw (slice_end k n ts h)
-
-leading_le : (c : Float) (ts : List Float) → leading c ts ≤ length ts
-unfolding leading
-leading_le c [] = omega arith
-leading_le c (t ∷ ts) = go (le t c) (leading_le c ts)
-  where
-    go : (b : Bool) {k n : ℕ} → k ≤ n → cond b (suc k) 0 ≤ suc n
-    go true h = omega arith
-    go false h = omega arith
-
--- no more points go than there are
+-- ---- `old_points`: no more points go than there are
 pub gone_le : (c : Float) (ts : List Float) (n : ℕ) → n ≤ length ts → leading c (slice 1 n ts) ≤ n
-gone_le c ts n h = omega (arith, leading_le c (slice 1 n ts), length-slice 1 n ts h)
+unfolding leading
+gone_le c ts n h = omega (arith, prefix_len-le-length (λ t. le t c) (slice 1 n ts), length-slice 1 n ts h)
 
--- ---- `mu_at`
-module _ (t : Float) (now : Point) (ts ms : List Float) (n : ℕ) (lt : n ≤ length ts) (lm : n ≤ length ms) where
-  -- the points from i on
-  abbrev pub points_from : ℕ → List Point
-  points_from i = zip_with point (slice i n ts) (slice i n ms)
+-- ---- `mu_at`: its start, a turn and its end, by the times and integrals that are still to come
+module _ (t : Float) (now : Point) where
+  pub search_start : (ts ms : List Float) (n : ℕ) → 0 < n → n ≤ length ts → n ≤ length ms → integral_at t (zip_with point (take n ts) (take n ms)) now
+      ≡ cond (le t (get_or ts 0 nan)) (get_or ms 0 nan)
+      (integral_after t (point (get_or ts 0 nan) (get_or ms 0 nan)) (zip_with point (take (n - 1) (drop 1 ts)) (take (n - 1) (drop 1 ms)) ++ (now ∷ [])))
+  unfolding integral_at zip_with
+  search_start ts ms zero h k l = absurd (omega arith)
+  search_start [] ms (suc n) h k l = absurd (omega arith)
+  search_start (x ∷ ts) [] (suc n) h k l = absurd (omega arith)
+  search_start (x ∷ ts) (y ∷ ms) (suc n) h k l = let e : suc n - 1 ≡ n = omega arith in rw e
 
-  -- point i
-  abbrev pub point_at : ℕ → Point
-  point_at i = point (get_or ts i nan) (get_or ms i nan)
-
-  points_cons : (i : ℕ) → i < n → points_from i ≡ point_at i ∷ points_from (i + 1)
-  unfolding zip_with
-  points_cons i h = rw (slice-cons i n ts nan h lt, slice-cons i n ms nan h lm, add-one)
-
-  pub search_start : 0 < n → integral_at t (points_from 0) now ≡ cond (le t (get_or ts 0 nan)) (get_or ms 0 nan) (integral_after t (point_at 0) (points_from 1 ++ (now ∷ [])))
-  unfolding integral_at
-  search_start h = rw (points_cons 0 h)
-
-  module _ (p : Point) (i : ℕ) where
-    pub search_turn : i < n → integral_after t p (points_from i ++ (now ∷ []))
-        ≡ cond (le t (get_or ts i nan)) (on_line t p (point_at i)) (integral_after t (point_at i) (points_from (i + 1) ++ (now ∷ [])))
-    unfolding integral_after
-    search_turn h = rw (points_cons i h)
-
-    pub search_end : n ≤ i → integral_after t p (points_from i ++ (now ∷ [])) ≡ cond (le t now.time) (on_line t p now) now.integral
+  module _ (p : Point) where
+    pub search_turn : (ts ms : List Float) (x y : Float) (us vs : List Float) → ts ≡ x ∷ us → ms ≡ y ∷ vs → integral_after t p (zip_with point ts ms ++ (now ∷ []))
+        ≡ cond (le t x) (on_line t p (point x y)) (integral_after t (point x y) (zip_with point us vs ++ (now ∷ [])))
     unfolding integral_after zip_with
-    search_end h = rw (slice_end i n ts h)
+    search_turn ts ms x y us vs e f = rw (e, f)
+
+    pub search_end : (ts ms : List Float) → (ts ≡ []) ⊎ (ms ≡ []) → integral_after t p (zip_with point ts ms ++ (now ∷ [])) ≡ cond (le t now.time) (on_line t p now) now.integral
+    unfolding integral_after zip_with
+    search_end [] ms e = refl
+    search_end (x ∷ ts) [] e = refl
+    search_end (x ∷ ts) (y ∷ ms) (inl e) = absurd (omega (arith, ap length e))
+    search_end (x ∷ ts) (y ∷ ms) (inr e) = absurd (omega (arith, ap length e))

@@ -1,6 +1,6 @@
 -- The window's points beside the arrays that hold them: dropping, the last point and storing, by index. Assumes nothing.
-use Prim.Native.Nat.{suc}
-use mathlib.Core.Path.{◌≡◌, refl, sym, ap}
+use Prim.Native.Nat.{suc, ◌+◌}
+use mathlib.Core.Path.{◌≡◌, refl, sym, ap, ◌∙◌}
 use mathlib.Core.Bool.{Bool, true, false, cond}
 use mathlib.Core.List.{List, [], ◌∷◌, ◌++◌, zip_with, map, drop_last}
 use native.Mathlib.Omega.{arith}
@@ -45,8 +45,11 @@ drop_old_is c (p ∷ []) = refl
 drop_old_is c (p ∷ q ∷ ps) = go (le q.time c) (drop_old_is c (q ∷ ps))
   where
     go : (b : Bool) → drop_old c (q ∷ ps) ≡ drop (leading c (map (λ p. p.time) ps)) (q ∷ ps)
-        → cond b (drop_old c (q ∷ ps)) (p ∷ q ∷ ps) ≡ drop (cond b (suc (leading c (map (λ p. p.time) ps))) 0) (p ∷ q ∷ ps)
-    go true ih = ih
+        → cond b (drop_old c (q ∷ ps)) (p ∷ q ∷ ps) ≡ drop (cond b (1 + leading c (map (λ p. p.time) ps)) 0) (p ∷ q ∷ ps)
+    go true ih =
+        let k = leading c (map (λ p. p.time) ps) in
+        let one : suc k ≡ 1 + k = omega arith in
+        ih ∙ ap (λ n. drop n (p ∷ q ∷ ps)) one
     go false ih = refl
 
 -- ---- the last point

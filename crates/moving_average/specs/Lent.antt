@@ -1,5 +1,6 @@
 -- Words for the helpers that work on the window's arrays where they stand, lent by reference. Of state.rt only the helper `integrator` is promised in them.
-use Rattle.std.specs.Prelude.{ℕ, zero, suc, Bool, false, cond, List, [], ◌∷◌, get_or, Float}
+use Rattle.std.specs.Prelude.{ℕ, zero, suc, Bool, false, cond, List, get_or, Float}
+use Rattle.std.specs.List.{prefix_len}
 use Rattle.std.specs.Float.{nan}
 use Rattle.std.specs.Float.Ieee.{le}
 use Rattle.moving_average.specs.declared.state.MovingAverageState.{MovingAverageState}
@@ -13,8 +14,7 @@ joined s times integrals =
 
 -- how many of the times, from the first on, are at or before the cutoff. Asked of the times from the second point on, it is how many points are dropped.
 unfoldable pub leading : Float → List Float → ℕ
-leading cutoff [] = 0
-leading cutoff (t ∷ ts) = cond (le t cutoff) (suc (leading cutoff ts)) 0
+leading cutoff times = prefix_len (λ t. le t cutoff) times
 
 -- the last of the first n times is t
 unfoldable pub last_is : Float → ℕ → List Float → Bool

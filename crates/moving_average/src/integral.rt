@@ -1,5 +1,5 @@
 // `mu_at` of relief_fan_group.rs: the integral of the input at a past time, over the window's arrays, which are lent.
-ghost use Rattle.std.specs.Prelude.{◌≡◌, ◌≤◌, length, take};
+ghost use Rattle.std.specs.Prelude.{◌≡◌, ◌≤◌, take};
 ghost use mathlib.Core.List.{zip_with};
 ghost use Rattle.moving_average.specs.Window.{point};
 ghost use Rattle.moving_average.specs.Integral.{on_line, integral_at};
@@ -26,7 +26,7 @@ pub fn mu_at<'a>(
     t_now: f64,
     mu_now: f64,
 ) -> f64
-    requires { (n ≤ 512) × (length times.now ≡ 512) × (length integrals.now ≡ 512) }
+    requires { n ≤ 512 }
     ensures { result ≡ integral_at target (zip_with point (take n times.now) (take n integrals.now)) (point t_now mu_now) }
 {
     if n == 0 {
@@ -37,16 +37,11 @@ pub fn mu_at<'a>(
     if target <= t0 {
         return m0;
     }
-    let mut i: usize = 1;
-    while i < n {
-        let t1 = times[i];
-        let m1 = integrals[i];
+    for (&t1, &m1) in times[1..n].iter().zip(&integrals[1..n]) {
         if target <= t1 {
             return on_line(target, t0, m0, t1, m1);
         }
-        t0 = t1;
-        m0 = m1;
-        i += 1;
+        (t0, m0) = (t1, m1);
     }
     if target <= t_now {
         on_line(target, t0, m0, t_now, mu_now)

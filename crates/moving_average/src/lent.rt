@@ -1,5 +1,5 @@
 // The moving average on arrays that the caller lends, so that a row copies none of them. Helpers: the public operations are those of state.rt.
-ghost use Rattle.std.specs.Prelude.{◌≡◌, min, List, Float, length, take, get_or};
+ghost use Rattle.std.specs.Prelude.{◌≡◌, ◌≤◌, min, List, Float, length, take, get_or};
 ghost use Rattle.moving_average.specs.State.{start_time, mu_now, averaged_time, moving_average_output, moving_average_is_full, moving_average_update};
 ghost use Rattle.moving_average.specs.Lent.{joined};
 
@@ -32,6 +32,7 @@ impl Integrator {
     }
 
     // The integral up to t.
+    #[tactic(auto, unfolding(crate::specs::State::mu_now))]
     fn mu_now(self, t: f64, input: f64) -> f64
         ensures { result ≡ mu_now self.prev_t self.mu t input }
     {
@@ -42,7 +43,7 @@ impl Integrator {
     fn len(self) -> usize
         ensures { result ≡ min self.count 512 }
     {
-        if 512 < self.count { 512 } else { self.count }
+        self.count.min(512)
     }
 
     // How long the averaged time is.
@@ -66,7 +67,6 @@ impl Integrator {
         t: f64,
         input: f64,
     ) -> f64
-        requires { (length times.now ≡ 512) × (length integrals.now ≡ 512) }
         ensures { result ≡ moving_average_output (joined self times.now integrals.now) t input }
     {
         let start = self.start(t);
@@ -80,7 +80,6 @@ impl Integrator {
     // Helper: `MovingAverageState::is_full`.
     #[tactic(auto, using(crate::proofs::Held::full_over, crate::proofs::Held::full_is, crate::proofs::Loops::gone_le))]
     pub fn is_full(self, times: &[f64; 512], t: f64) -> bool
-        requires { length times.now ≡ 512 }
         ensures { (integrals : List Float) → length integrals ≡ 512 → result ≡ moving_average_is_full (joined self times.now integrals) t }
     {
         let n = self.count;
@@ -99,7 +98,6 @@ impl Integrator {
         t: f64,
         input: f64,
     ) -> Integrator
-        requires { (length times.old ≡ 512) × (length integrals.old ≡ 512) }
         ensures { joined result times.new integrals.new ≡ moving_average_update (joined self times.old integrals.old) t input }
     {
         if self.is_full(times, t) {
@@ -123,8 +121,8 @@ impl Integrator {
 
 // Helper: the first of the n points' times, or the start where there is none.
 fn first_time(times: &[f64; 512], n: usize, start: f64) -> f64
-    requires { length times.now ≡ 512 }
+    requires { n ≤ 512 }
     ensures { result ≡ get_or (take n times.now) 0 start }
 {
-    if n == 0 { start } else { times[0] }
+    times[..n].first().copied().unwrap_or(start)
 }

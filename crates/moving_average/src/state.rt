@@ -56,33 +56,30 @@ impl MovingAverageState {
     pub fn output(self, t: f64, input: f64) -> f64
         ensures { result ≡ moving_average_output self t input }
     {
-        let s = self.integrator();
-        s.output(&self.times, &self.integrals, t, input)
+        self.integrator()
+            .output(&self.times, &self.integrals, t, input)
     }
 
     // Whether the window has no room for a row at t: refusal 4.
     pub fn is_full(self, t: f64) -> bool
         ensures { result ≡ moving_average_is_full self t }
     {
-        let s = self.integrator();
-        s.is_full(&self.times, t)
+        self.integrator().is_full(&self.times, t)
     }
 
     // The state after a row; where the window is full, the state as it was.
     pub fn update(mut self, t: f64, input: f64) -> Self
         ensures { result ≡ moving_average_update self t input }
     {
-        let mut times = self.times;
-        let mut integrals = self.integrals;
-        let s = self.integrator();
-        let next = s.update(&mut times, &mut integrals, t, input);
+        let next = self
+            .integrator()
+            .update(&mut self.times, &mut self.integrals, t, input);
         Self {
             t_start: next.t_start,
             prev_t: next.prev_t,
             mu: next.mu,
-            times: times,
-            integrals: integrals,
             count: next.count,
+            ..self
         }
     }
 }

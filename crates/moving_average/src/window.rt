@@ -1,5 +1,5 @@
-// `prune` and `store` of relief_fan_group.rs, by index into the window's arrays, which are lent.
-ghost use Rattle.std.specs.Prelude.{◌≡◌, ◌+◌, ◌≤◌, ◌<◌, [], ◌∷◌, ◌++◌, length, take, drop};
+// `prune` and `store` of relief_fan_group.rs, in the window's arrays, which are lent.
+ghost use Rattle.std.specs.Prelude.{◌≡◌, ◌+◌, ◌≤◌, ◌<◌, [], ◌∷◌, ◌++◌, take, drop};
 ghost use Rattle.std.proofs.Math.Seq.{slice};
 ghost use Rattle.moving_average.specs.Window.{same_time};
 ghost use Rattle.moving_average.specs.State.{written};
@@ -18,29 +18,23 @@ pub fn same_time(a: f64, b: f64) -> bool
 // Helper: whether the last of the n points is at t.
 #[tactic(auto, unfolding(crate::specs::Lent::last_is))]
 pub fn ends_at(times: &[f64; 512], n: usize, t: f64) -> bool
-    requires { (n ≤ 512) × (length times.now ≡ 512) }
+    requires { n ≤ 512 }
     ensures { result ≡ last_is t n times.now }
 {
-    if n == 0 {
-        return false;
-    }
-    same_time(times[n - 1], t)
+    times[..n].last().is_some_and(|&last| same_time(last, t))
 }
 
 // Helper: how many of the n points are dropped: while a second point exists at or before the cutoff, the first goes.
+#[tactic(auto, unfolding(crate::specs::Lent::leading))]
 pub fn old_points(times: &[f64; 512], n: usize, cutoff: f64) -> usize
-    requires { (n ≤ 512) × (length times.now ≡ 512) }
+    requires { n ≤ 512 }
     ensures { result ≡ leading cutoff (slice 1 n times.now) }
 {
-    let mut k: usize = 0;
-    while k + 1 < n {
-        if times[k + 1] <= cutoff {
-            k += 1;
-        } else {
-            return k;
-        }
-    }
-    k
+    times[..n]
+        .iter()
+        .skip(1)
+        .take_while(|&&t| t <= cutoff)
+        .count()
 }
 
 // The index of a new point, of a window that keeps n points: that of the last one where it is at the same time.
@@ -48,48 +42,30 @@ pub fn old_points(times: &[f64; 512], n: usize, cutoff: f64) -> usize
 pub fn slot(n: usize, same: bool) -> usize
     ensures { result ≡ slot n same }
 {
-    if n == 0 {
-        return 0;
-    }
-    if same { n - 1 } else { n }
+    if same { n.saturating_sub(1) } else { n }
 }
 
-// The j entries from 1 on come to the front, and the entries past them stay. The distance is fixed, so that this is one move of memory.
-fn advance_one(a: &mut [f64; 512], j: usize)
-    requires { (1 + j ≤ 512) × (length a.old ≡ 512) }
-    ensures { a.new ≡ written (take j (drop 1 a.old)) a.old }
-{
-    let mut i: usize = 0;
-    while i < j {
-        a[i] = a[i + 1];
-        i += 1;
-    }
-}
-
-// The j entries from k on come to the front, and the entries past them stay. Where rows come at equal steps k is 0 or 1.
-fn advance(a: &mut [f64; 512], k: usize, j: usize)
-    requires { (k + j ≤ 512) × (length a.old ≡ 512) }
+// The j entries from k on come to the front, and the entries past them stay.
+#[inline(always)]
+fn shift(a: &mut [f64; 512], k: usize, j: usize)
+    requires { k + j ≤ 512 }
     ensures { a.new ≡ written (take j (drop k a.old)) a.old }
 {
-    if k == 0 {
-        return;
-    }
-    if k == 1 {
-        advance_one(a, j);
-        return;
-    }
-    let mut i: usize = 0;
-    while i < j {
+    for i in 0..j {
         a[i] = a[i + k];
-        i += 1;
     }
 }
 
-// Helper: the j entries from k on come to the front, x follows them, and the entries past it stay.
+// Helper: the j entries from k on come to the front, x follows them, and the entries past it stay. Where rows come at equal steps k is 0 or 1: with 0
+// nothing moves, and with the constant 1 it is one move of memory.
 pub fn put(a: &mut [f64; 512], k: usize, j: usize, x: f64)
-    requires { (k + j ≤ 512) × (j < 512) × (length a.old ≡ 512) }
+    requires { (k + j ≤ 512) × (j < 512) }
     ensures { a.new ≡ written (take j (drop k a.old) ++ (x ∷ [])) a.old }
 {
-    advance(a, k, j);
+    match k {
+        0 => {}
+        1 => shift(a, 1, j),
+        _ => shift(a, k, j),
+    }
     a[j] = x;
 }

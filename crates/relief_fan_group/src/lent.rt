@@ -1,5 +1,5 @@
 // The row on a window whose arrays the caller lends, so that a row copies none of them. Helpers: the public operation is `relief_row`.
-ghost use Rattle.std.specs.Prelude.{◌≡◌, length};
+ghost use Rattle.std.specs.Prelude.{◌≡◌};
 ghost use Rattle.relief_fan_group.specs.Step.{relief_row};
 ghost use Rattle.relief_fan_group.specs.Lent.{lent_state, lent_step};
 
@@ -27,7 +27,6 @@ pub fn relief_row_lent(
     integrals: &mut [f64; 512],
     row: ReliefRow,
 ) -> LentStep
-    requires { (length times.old ≡ 512) × (length integrals.old ≡ 512) }
     ensures { lent_step result times.new integrals.new ≡ relief_row (lent_state integrator blocks times.old integrals.old) row }
 {
     let full = integrator.is_full(times, row.time);

@@ -1,5 +1,5 @@
 // Relief lines: the columns of a row and of an answer, a row made of its words and written by them, an answer made into words.
-ghost use Rattle.std.specs.Prelude.{◌≡◌, length};
+ghost use Rattle.std.specs.Prelude.{◌≡◌};
 ghost use Rattle.columns.specs.Forms.{word_list};
 ghost use Rattle.line_stream.specs.RowKind.{Stepped};
 ghost use Rattle.relief_fan_group.specs.Lent.{lent_state};
@@ -163,7 +163,6 @@ pub fn relief_step(
     integrals: &mut [f64; 512],
     words: [u64; 12],
 ) -> ReliefStepped
-    requires { (length times.old ≡ 512) × (length integrals.old ≡ 512) }
     ensures { Stepped relief_kind
         (lent_state integrator blocks times.old integrals.old) words
         (lent_state result.integrator result.blocks times.new integrals.new) result.answer }

@@ -1,5 +1,5 @@
 // The relief fan group, a call a row, in memory that the caller holds: the words of its state, and the two arrays of its window, which are lent.
-ghost use Rattle.std.specs.Prelude.{◌≡◌, length};
+ghost use Rattle.std.specs.Prelude.{◌≡◌};
 ghost use Rattle.relief_fan_group.specs.Step.{relief_fresh, relief_row};
 ghost use Rattle.relief_words.specs.ReliefRow.{relief_row_of};
 ghost use Rattle.woldgrater.specs.Relief.{memory, relief_memory, relief_in, relief_answered, relief_called, relief_given};
@@ -51,13 +51,6 @@ pub fn woldgrater_relief_start(times: &mut [f64; 512], integrals: &mut [f64; 512
     }
 }
 
-// Helper. The length of an array of the window: lent as a slice, it tells the prover what its type says.
-pub fn lend(values: &[f64]) -> usize
-    ensures { result ≡ length values.now }
-{
-    values.len()
-}
-
 // An answer's status and commands.
 #[tactic(auto, unfolding(crate::specs::Relief::relief_answered))]
 fn relief_answered(answer: ReliefAnswer) -> ReliefAnswered
@@ -90,8 +83,6 @@ pub fn woldgrater_relief_row(
     let integrator = words.value();
     let blocks = block_words.value();
     let sampled = row.value();
-    lend(times);
-    lend(integrals);
     let step = relief_row_lent(integrator, blocks, times, integrals, sampled);
     let following = step.integrator;
     let next = step.blocks;

@@ -6,7 +6,6 @@ ghost use Rattle.woldgrater_service.specs.Chunks.{KeptOf};
 
 use row_kinds::types::{Fed, RowReader};
 use row_reader::feed::{feed, finish};
-use woldgrater::relief::lend;
 
 // The bytes kept of a line: all of its buffer where a caller says more.
 fn kept_of(kept: usize) -> usize
@@ -35,8 +34,6 @@ pub fn feed_lent(
         out.new result.sent }
 {
     let had = kept_of(kept);
-    lend(times);
-    lend(integrals);
     feed(chunk, line, out, times, integrals, reader, had)
 }
 

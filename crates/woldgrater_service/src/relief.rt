@@ -1,5 +1,5 @@
 // The relief fan group: what a row's commands would be worked from, for a display or a logger, the alarms that a state remembers, and the line of a row.
-ghost use Rattle.std.specs.Prelude.{◌≡◌, length};
+ghost use Rattle.std.specs.Prelude.{◌≡◌};
 ghost use Rattle.relief_fan_group.specs.Lent.{lent_state};
 ghost use Rattle.relief_fan_group.specs.Remembered.{relief_alarm};
 ghost use Rattle.row_writer.specs.Writing.{write_row, ReadsBack};
@@ -21,7 +21,7 @@ use relief_lines::relief::write_relief_row;
 use relief_words::relief_left::ReliefLeftWords;
 use relief_words::relief_row::ReliefRowWords;
 use relief_words::relief_signals::ReliefSignalsWords;
-use woldgrater::relief::{ReliefWords, lend};
+use woldgrater::relief::ReliefWords;
 
 // The status of a row, and what the commands of an accepted one are worked from.
 // Beside it the seconds left on its timers.
@@ -42,7 +42,6 @@ fn relief_shown<'a>(
     blocks: ReliefBlocks,
     row: ReliefRow,
 ) -> ReliefShown
-    requires { (length times.now ≡ 512) × (length integrals.now ≡ 512) }
     ensures { result ≡ relief_shown (lent_state integrator blocks times.now integrals.now)
         row }
 {
@@ -84,8 +83,6 @@ pub fn woldgrater_relief_signals<'a>(
     let integrator = words.value();
     let blocks = block_words.value();
     let sampled = row.value();
-    lend(times);
-    lend(integrals);
     relief_shown(times, integrals, integrator, blocks, sampled)
 }
 

@@ -40,9 +40,6 @@ done c =
           (bad_arm k _ _ _ _ _ _ l.invariant.1 (line c) _ _ read w.if-read.false _ c.status_alone-answer.ensures)
     ]
 
-pub relief_step-stepped-requires : goal.relief_step-stepped-requires
-relief_step-stepped-requires c = (c.loop-j.invariant.1.times_long, c.loop-j.invariant.1.integrals_long)
-
 pub write_line-sent-requires : goal.write_line-sent-requires
 write_line-sent-requires c =
     let d = (goal.at.write_line-sent-requires c).Joined-read in

@@ -9,7 +9,7 @@ unfolding moving_average_output
 returns c =
     let a = c.args in
     let whole = joined a.self a.times.now a.integrals.now in
-    let sized : Sized whole = record { times = c.requires.0; integrals = c.requires.1 } in
+    let sized : Sized whole = record { times = c.told-times; integrals = c.told-integrals } in
     let n = c.len-n.result in
     let e = c.len-n.ensures in
     rw (

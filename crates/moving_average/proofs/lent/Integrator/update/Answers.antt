@@ -31,54 +31,54 @@ placed s t sized e k b j ek eb ej =
 pub old_points-k-requires : goal.old_points-k-requires
 old_points-k-requires c =
     let a = c.args in
-    let e = sym (c.is_full.ensures a.integrals.now c.requires.1) ∙ c.if-is_full.false in
-    (counts (joined a.self a.times.now a.integrals.now) a.t e, c.requires.0)
+    let e = sym (c.is_full.ensures a.integrals.now c.told-integrals) ∙ c.if-is_full.false in
+    counts (joined a.self a.times.now a.integrals.now) a.t e
 
 pub overflow_sub-n : goal.overflow_sub-n
 overflow_sub-n c =
     let a = c.args in
-    let e = sym (c.is_full.ensures a.integrals.now c.requires.1) ∙ c.if-is_full.false in
+    let e = sym (c.is_full.ensures a.integrals.now c.told-integrals) ∙ c.if-is_full.false in
     let small = counts (joined a.self a.times.now a.integrals.now) a.t e in
     rw c.old_points-k.ensures (gone_le (cutoff a.t) a.times.now a.self.count (omega (arith, small)))
 
 pub ends_at-requires : goal.ends_at-requires
 ends_at-requires c =
     let a = c.args in
-    let e = sym (c.is_full.ensures a.integrals.now c.requires.1) ∙ c.if-is_full.false in
-    (counts (joined a.self a.times.now a.integrals.now) a.t e, c.requires.0)
+    let e = sym (c.is_full.ensures a.integrals.now c.told-integrals) ∙ c.if-is_full.false in
+    counts (joined a.self a.times.now a.integrals.now) a.t e
 
 pub put-requires : goal.put-requires
 put-requires c =
     let a = c.args in
-    let e = sym (c.is_full.ensures a.integrals.now c.requires.1) ∙ c.if-is_full.false in
-    let p = placed (joined a.self a.times.now a.integrals.now) a.t (record { times = c.requires.0; integrals = c.requires.1 }) e _ _ _ c.old_points-k.ensures c.ends_at.ensures c.slot-j.ensures in
-    (p.within, p.below, c.requires.0)
+    let e = sym (c.is_full.ensures a.integrals.now c.told-integrals) ∙ c.if-is_full.false in
+    let p = placed (joined a.self a.times.now a.integrals.now) a.t (record { times = c.told-times; integrals = c.told-integrals }) e _ _ _ c.old_points-k.ensures c.ends_at.ensures c.slot-j.ensures in
+    (p.within, p.below)
 
 pub put-requires-2 : goal.put-requires-2
 put-requires-2 c =
     let a = c.args in
-    let e = sym (c.is_full.ensures a.integrals.now c.requires.1) ∙ c.if-is_full.false in
-    let p = placed (joined a.self a.times.now a.integrals.now) a.t (record { times = c.requires.0; integrals = c.requires.1 }) e _ _ _ c.old_points-k.ensures c.ends_at.ensures c.slot-j.ensures in
-    (p.within, p.below, c.requires.1)
+    let e = sym (c.is_full.ensures a.integrals.now c.told-integrals) ∙ c.if-is_full.false in
+    let p = placed (joined a.self a.times.now a.integrals.now) a.t (record { times = c.told-times; integrals = c.told-integrals }) e _ _ _ c.old_points-k.ensures c.ends_at.ensures c.slot-j.ensures in
+    (p.within, p.below)
 
 pub overflow_add-result : goal.overflow_add-result
 overflow_add-result c =
     let a = c.args in
-    let e = sym (c.is_full.ensures a.integrals.now c.requires.1) ∙ c.if-is_full.false in
-    let p = placed (joined a.self a.times.now a.integrals.now) a.t (record { times = c.requires.0; integrals = c.requires.1 }) e _ _ _ c.old_points-k.ensures c.ends_at.ensures c.slot-j.ensures in
+    let e = sym (c.is_full.ensures a.integrals.now c.told-integrals) ∙ c.if-is_full.false in
+    let p = placed (joined a.self a.times.now a.integrals.now) a.t (record { times = c.told-times; integrals = c.told-integrals }) e _ _ _ c.old_points-k.ensures c.ends_at.ensures c.slot-j.ensures in
     omega (arith, p.below)
 
 pub returns-then-is_full : goal.returns-then-is_full
 unfolding moving_average_update
-returns-then-is_full c = rw (← c.is_full.ensures c.args.integrals.now c.requires.1, c.if-is_full.true)
+returns-then-is_full c = rw (← c.is_full.ensures c.args.integrals.now c.told-integrals, c.if-is_full.true)
 
 pub returns : goal.returns
 unfolding moving_average_update moving_average_stored
 returns c =
     let a = c.args in
     let s = joined a.self a.times.now a.integrals.now in
-    let sized : Sized s = record { times = c.requires.0; integrals = c.requires.1 } in
-    let e = sym (c.is_full.ensures a.integrals.now c.requires.1) ∙ c.if-is_full.false in
+    let sized : Sized s = record { times = c.told-times; integrals = c.told-integrals } in
+    let e = sym (c.is_full.ensures a.integrals.now c.told-integrals) ∙ c.if-is_full.false in
     let p = placed s a.t sized e _ _ _ c.old_points-k.ensures c.ends_at.ensures c.slot-j.ensures in
     let small = counts s a.t e in
     let mu = c.mu_now-mu.result in
