@@ -2,7 +2,6 @@
 ghost use Rattle.std.specs.Prelude.{◌≡◌};
 ghost use Rattle.economizer_controller.specs.DamperLimits.{minimum_outdoor_air_loop_enabled, damper_limits};
 
-use crate::integers::integers_equal;
 use crate::types::DamperLimits;
 use reals::line::buildings_line;
 use reals::pid_with_reset::PidWithResetState;
@@ -21,12 +20,11 @@ const OUT_DAM_PHY_MIN: f64 = 0.0;
 const OCCUPIED: i64 = 1;
 
 // The supply fan is proven on, and the mode is occupied.
-#[tactic(auto, unfolding(crate::specs::DamperLimits::minimum_outdoor_air_loop_enabled))]
+#[tactic(auto, unfolding(crate::specs::DamperLimits::minimum_outdoor_air_loop_enabled, crate::specs::Integers::integers_equal))]
 pub fn minimum_outdoor_air_loop_enabled(supply_fan_status: bool, operation_mode: i64) -> bool
     ensures { result ≡ minimum_outdoor_air_loop_enabled supply_fan_status operation_mode }
 {
-    let occupied = integers_equal(operation_mode, OCCUPIED);
-    supply_fan_status & occupied
+    supply_fan_status & (operation_mode == OCCUPIED)
 }
 
 // The outdoor damper's minimum rises over the lower half of the loop signal, the return damper's maximum falls over the upper half; where the loop is off, the

@@ -3,7 +3,6 @@
 ghost use Rattle.std.specs.Prelude.{◌≡◌};
 ghost use Rattle.economizer_controller.specs.Enable.{enable_new, enable_output, enable_update, enable_limits};
 
-use crate::integers::integers_equal;
 use crate::types::{DamperLimits, EnableLimits, EnableSignals};
 use logical::true_delay::TrueDelayState;
 use logical::true_false_hold::TrueFalseHoldState;
@@ -40,7 +39,7 @@ impl EnableState {
         }
     }
 
-    #[tactic(auto, unfolding(crate::specs::Enable::enable_output))]
+    #[tactic(auto, unfolding(crate::specs::Enable::enable_output, crate::specs::Integers::integers_equal))]
     pub fn output(
         self,
         t: f64,
@@ -54,7 +53,7 @@ impl EnableState {
         let dry_bulb_delta = outdoor_air_temperature - outdoor_air_cutoff;
         let outdoor_air_condition = self.hysteresis.output(dry_bulb_delta);
         let held_condition = self.hold.output(t, outdoor_air_condition);
-        let stage_0 = integers_equal(freeze_protection_stage, Self::NO_FREEZE_STAGE);
+        let stage_0 = freeze_protection_stage == Self::NO_FREEZE_STAGE;
         let enabled = held_condition & supply_fan_status & stage_0;
         let disabled = !enabled;
         let outdoor_delay_done = self.outdoor_delay.output(t, disabled, Self::OUTDOOR_DELAY);

@@ -2,7 +2,6 @@
 #![tactic(auto)]
 
 pub mod types; // row, state, signals, commands, answer, step
-pub mod integers; // CDL.Integers.Equal
 pub mod verdict; // what a row is refused for
 pub mod damper_limits; // the first pass: Subsequences.Limits.Common
 pub mod enable; // the second pass: Subsequences.Enable

@@ -15,6 +15,7 @@ use relief_fans::orders::{distance, pro1, pro2, swi, swi3};
 use relief_fans::table::{ena_rel, gai};
 
 // The pressure loop: the mean above the setpoint, normalized and limited to 0 .. 1.
+#[tactic(auto, unfolding(crate::specs::Signals::pressure_loop))]
 pub fn pressure_loop(average: f64) -> f64
     ensures { result ≡ pressure_loop average }
 {
