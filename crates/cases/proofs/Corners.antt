@@ -1,4 +1,4 @@
--- Sentences of document 01 about single numbers: greater and lesser pass a NaN over and give the first of two equal operands; `clamp` at a NaN.
+-- Sentences about single numbers: greater and lesser pass a NaN over and give the first of two equal operands; `clamp` at a NaN.
 -- (`f64::clamp` at a NaN: `limit_of_nan` of reals.) Assumes nothing.
 use mathlib.Core.Path.{◌≡◌, refl}
 use mathlib.Core.Bool.{false}

@@ -1,4 +1,4 @@
--- The cases of document 01 that are marked P: one table, an entry a case, with the words of document 01 above it. proofs/Table.antt has the one fact that covers it.
+-- The proved cases: one table, an entry a case, with its words above it. proofs/Table.antt has the one fact that covers it.
 use Rattle.std.specs.Prelude.{ℕ, ◌<◌, ◌≡◌, true, false, [], ◌∷◌, T}
 use Rattle.std.specs.Float.Ieee.Scale.{finite}
 use Rattle.reals.specs.Sign.{is_time}
@@ -15,7 +15,7 @@ use Rattle.cases.specs.Relief.{told, AlarmGuard, Waits}
 use Rattle.cases.specs.Economizer.{RisesAndStays, StartsAndWaits}
 use Rattle.cases.specs.RowLines.{input_bytes, output_bytes}
 
--- `o` has, for each time, the fields that document 01 leaves open; they are any finite numbers
+-- `o` has, for each time, the fields that the cases leave open; they are any finite numbers
 pub record Cases : Type 0 where
   -- F1 0: 277, 299: 277, stage 0; with 300 in place of 299, stage 1.
   pub f1 : (o : ℕ → FreezeOthers)

@@ -1,4 +1,4 @@
--- Freeze rows as document 01 writes its cases, 'time: supply kelvin; mixed 300.15, no reset unless said', and what a run of them from a fresh state gives.
+-- Freeze rows as the cases are written, 'time: supply kelvin; mixed 300.15, no reset unless said', and what a run of them from a fresh state gives.
 use Rattle.std.specs.Prelude.{ℕ, Bool, true, false, List, map}
 use Rattle.logical.specs.Run.{run}
 use Rattle.past.specs.Whole.{Told}

@@ -1,4 +1,4 @@
--- The proved cases of document 01: the rows that they speak of, and the table.
+-- The proved cases: the rows that they speak of, and the table.
 pub mod Words
 pub mod Freeze
 pub mod Relief

@@ -32,7 +32,7 @@ pub record AlarmGuard (state : ReliefState) (row : ReliefRow) : Type 0 where
   -- an unproven fan at alarm 2 has damper 0
   pub alarm2 : (commands : ReliefCommands) → (relief_row state row).answer ≡ Ok commands
       → (fan : ℕ) → fan < 4 → level row.alarm fan ≡ pos 2 → flag row.proof fan ≡ false → real (dampers_of commands) fan ≡ zero
-  -- alarm 3 does nothing: the answer is that of the row without it, and so is the state, but for the alarms that it remembers (document 02, job 10)
+  -- alarm 3 does nothing: the answer is that of the row without it, and so is the state, but for the alarms that it remembers
   pub alarm3 : (relief_row state (with_alarm row (map without3 row.alarm))).answer ≡ (relief_row state row).answer
   pub alarm3_state : (alarms : List ℤ)
       → state_remembering alarms (relief_row state (with_alarm row (map without3 row.alarm))).state ≡ state_remembering alarms (relief_row state row).state

@@ -1,4 +1,4 @@
--- The example of document 01, 'Row lines', byte for byte.
+-- The example of a row line, byte for byte.
 use Rattle.std.specs.Prelude.{ℕ, List, [], ◌∷◌, ◌++◌}
 use Prim.Native.Char.{code}
 use Prim.Native.String.{String, [] as none, ◌∷◌ as ◌before◌}

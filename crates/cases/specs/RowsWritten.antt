@@ -1,4 +1,4 @@
--- A row of numbers that are easily written wrong, and its line (document 02, job 8): −0.0, the least and the greatest subnormal, the lowest float, and both
+-- A row of numbers that are easily written wrong, and its line: −0.0, the least and the greatest subnormal, the lowest float, and both
 -- ends of the signed numbers.
 use Rattle.std.specs.Prelude.{ℕ, List, false, pos, negsuc}
 use Rattle.std.specs.Float.{binary64}

@@ -1,4 +1,4 @@
--- The words that the cases share: decimals as document 01 writes them, numbers that it leaves open, and values of accepted rows.
+-- The words that the cases share: decimals as cases are written, numbers that they leave open, and values of accepted rows.
 use Rattle.std.specs.Prelude.{ℕ, Bool, true, false, List, map, ℤ, Float}
 use Rattle.std.specs.Float.{fin, binary64}
 use Rattle.std.specs.Float.Ieee.{round}

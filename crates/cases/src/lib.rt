@@ -1,2 +1,2 @@
-// Nothing runs here: the crate holds the cases of document 01 that are proved, as one table (specs/), and the fact that covers it (proofs/).
+// Nothing runs here: the crate holds the cases that are proved, as one table (specs/), and the fact that covers it (proofs/).
 #![tactic(auto)]

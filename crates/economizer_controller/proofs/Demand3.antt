@@ -1,5 +1,5 @@
--- Demand 3 for economizer rows: for every list of rows from a fresh start and at every place in it, refusal or enable and both delays are those that document 01
--- reads off the accepted rows up to there. Assumes nothing.
+-- Demand 3 for economizer rows: for every list of rows from a fresh start and at every place in it, refusal or enable and both delays are those
+-- read off the accepted rows up to there. Assumes nothing.
 use Rattle.std.specs.Prelude.{Ok, Err}
 use Prim.Native.Nat.{ℕ, suc, ◌<◌}
 use mathlib.Core.Path.{◌≡◌, refl}

@@ -1,4 +1,4 @@
--- Enable and delays, read off the past without state (document 01, 'The past, read without state'). A past is the list of the accepted rows up to here, the
+-- Enable and delays, read off the past without state. A past is the list of the accepted rows up to here, the
 -- newest first; `since`, `hold` and `delayed` are the words of the crate `past`.
 use Rattle.std.specs.Prelude.{Bool, false, not, ◌&&◌, List, [], ◌∷◌, Float}
 use Rattle.std.specs.Float.{binary64}

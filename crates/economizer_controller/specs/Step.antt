@@ -70,6 +70,6 @@ step_by verdict state row =
     let signals = economizer_signals state row in
     stepped verdict (economizer_commands row signals) (economizer_next state row signals) state
 
--- a row (document 01, 'What each row refuses'): what its verdict makes of it
+-- a row: what its verdict makes of it
 unfoldable pub economizer_row : EconomizerState → EconomizerRow → EconomizerStep
 economizer_row state row = step_by (economizer_verdict state row) state row

@@ -1,4 +1,4 @@
--- Freeze protection's state as a function of the past: each block is the reading that document 01 gives it, and the two loops are stepped over the rows.
+-- Freeze protection's state as a function of the past: each block is what is read off the past for it, and the two loops are stepped over the rows.
 -- One row further the signals are the readings, and the next state is the state of the longer past. Assumes nothing.
 use Rattle.std.specs.Prelude.{None, Some}
 use mathlib.Core.Path.{◌≡◌, refl}

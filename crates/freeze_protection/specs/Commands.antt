@@ -6,7 +6,7 @@ use Rattle.freeze_protection.specs.declared.types.FreezeRow.{FreezeRow}
 use Rattle.freeze_protection.specs.declared.types.FreezeSignals.{FreezeSignals}
 use Rattle.freeze_protection.specs.declared.types.FreezeCommands.{FreezeCommands}
 
--- Each latch switches what the lower ones leave (document 01, 'Stage 3: fan off, ..'). That of stage 1: outdoor damper at its minimum position, heating coil by its loop,
+-- Each latch switches what the lower ones leave. That of stage 1: outdoor damper at its minimum position, heating coil by its loop,
 -- hot water request 2. Of stage 2: both outdoor dampers 0, return damper 1, alarm 3. Of stage 3: fan off, speed 0, all three dampers 0, cooling coil 1, pump on, heating
 -- coil by its own loop, hot water request 2, alarm 2. Else the inputs, with the pump off, no request and no alarm.
 unfoldable pub freeze_commands : FreezeRow → FreezeSignals → FreezeCommands

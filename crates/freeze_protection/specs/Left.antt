@@ -1,4 +1,4 @@
--- How long until each timer passes, for a display (document 02, job 3); and the timers of a row as a display shows them, read off the past.
+-- How long until each timer passes, for a display; and the timers of a row as a display shows them, read off the past.
 use Rattle.std.specs.Prelude.{Bool, List, [], ◌∷◌, Float}
 use Rattle.logical.specs.declared.timer.TimerOutput.{TimerOutput}
 use Rattle.logical.specs.Timer.{timer_output_left}

@@ -1,4 +1,4 @@
--- The freeze stage read off the past, with no state (document 01, 'The past, read without state'). A past holds the accepted rows up to here, the newest first.
+-- The freeze stage read off the past, with no state. A past holds the accepted rows up to here, the newest first.
 use Rattle.std.specs.Prelude.{ℕ, Bool, false, ◌||◌, cond, List, [], ◌∷◌, Float}
 use Rattle.std.specs.Float.{binary64}
 use Rattle.std.specs.Float.Ieee.{add, sub, lt}

@@ -1,4 +1,4 @@
--- What each stage commands (document 01, 'Stage 3: fan off, ..'; Guideline 36, freeze protection). proofs/Stages.antt shows it of the commands of every row, whatever the state.
+-- What each stage commands (Guideline 36, freeze protection). proofs/Stages.antt shows it of the commands of every row, whatever the state.
 use Rattle.std.specs.Prelude.{◌≡◌, true, false}
 use Rattle.reals.specs.Constants.{plus_zero, one}
 use Rattle.freeze_protection.specs.declared.types.FreezeCommands.{FreezeCommands}

@@ -85,6 +85,6 @@ step_by verdict state row =
     let signals = freeze_signals state row in
     stepped verdict (freeze_commands row signals) (freeze_next state row signals) state
 
--- a row (document 01, 'What each row refuses'): what its verdict makes of it
+-- a row: what its verdict makes of it
 unfoldable pub freeze_row : FreezeState → FreezeRow → FreezeStep
 freeze_row state row = step_by (freeze_verdict state row) state row

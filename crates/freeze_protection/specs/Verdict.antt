@@ -1,4 +1,4 @@
--- What a freeze row is refused for (document 01, 'What each row refuses').
+-- What a freeze row is refused for.
 use Rattle.std.specs.Prelude.{Bool, ◌&&◌}
 use Rattle.std.specs.Float.Ieee.Scale.{finite}
 use Rattle.refusals.specs.Refusals.{Verdict}

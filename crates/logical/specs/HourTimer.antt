@@ -1,5 +1,5 @@
 -- The timer of stage 2's hour, in either manner: CDL.Logical.Timer as freeze_protection.rs has it (the held timer), which stops when u falls; or one that runs on
--- (document 02, job 4; no block of the CDL), which counts from the last rise of u whatever u does since.
+-- (no block of the CDL), which counts from the last rise of u whatever u does since.
 use Rattle.std.specs.Prelude.{Bool, true, not, ◌&&◌, ◌||◌, cond, Float, Some}
 use Rattle.std.specs.Float.Ieee.{le}
 use Rattle.reals.specs.Constants.{plus_zero}

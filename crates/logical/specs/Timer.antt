@@ -13,7 +13,7 @@ use Rattle.logical.specs.declared.timer.TimerOutput.{TimerOutput}
 unfoldable pub entry_time : Option Float → Bool → Float → Bool → Option Float
 entry_time entry pre_u t u = cond u (cond pre_u entry (Some t)) None
 
--- time minus entryTime; 0 where u is false or has just risen (document 02, job 3): `y` in `TimerState::output` of freeze_protection.rs; relief_fan_group.rs
+-- time minus entryTime; 0 where u is false or has just risen: `y` in `TimerState::output` of freeze_protection.rs; relief_fan_group.rs
 -- tests it only where it is a difference. A state with no entry while u stays true, which no run reaches, has 0
 unfoldable pub elapsed_time : Option Float → Bool → Float → Bool → Float
 elapsed_time entry pre_u t u = switch (u && pre_u) (seen_elapsed entry t) plus_zero

@@ -1,5 +1,5 @@
 // The timer of stage 2's hour, in either manner. It stops when its input falls, as CDL.Logical.Timer does (freeze_protection.rs); or it runs on: it
-// counts from the input's last rise whatever the input does since, and a pass stays until the next rise (document 02, job 4).
+// counts from the input's last rise whatever the input does since, and a pass stays until the next rise.
 ghost use Rattle.std.specs.Prelude.{◌≡◌};
 ghost use Rattle.logical.specs.HourTimer.{hour_timer_new, hour_timer_held, hour_timer_output, hour_timer_update};
 

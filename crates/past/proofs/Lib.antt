@@ -1,5 +1,5 @@
 -- The laws that turn each word of the past into a recurrence; and for each block that a reading speaks of, that the block, stepped over a list of rows from
--- its start, gives what document 01 reads off that list. Every reading is for any type of row and any signal read off a past.
+-- its start, gives what is read off that list. Every reading is for any type of row and any signal read off a past.
 pub mod Laws
 pub mod RunLaws
 pub mod TurnLaws

@@ -1,4 +1,4 @@
--- Acceptance read off the list alone, for rows that refusals 1, 2 and 3 judge (document 01: 'A row is accepted exactly when no refusal fits it').
+-- Acceptance read off the list alone, for rows that refusals 1, 2 and 3 judge.
 use Rattle.std.specs.Prelude.{Bool, List, [], ◌∷◌, Float, Option, None, Some}
 use Rattle.refusals.specs.Refusals.{Verdict}
 use Rattle.refusals.specs.Refusals.{judge}

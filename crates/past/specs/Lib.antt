@@ -1,4 +1,4 @@
--- The words of document 01, 'The past, read without state'.
+-- The words in which the past is read with no state.
 pub mod Past
 pub mod Runs
 pub mod Turns

@@ -1,4 +1,4 @@
--- Reading a past with no state (document 01, 'The past, read without state'). A past is the list of the accepted rows up to here, the newest first, so
+-- Reading a past with no state. A past is the list of the accepted rows up to here, the newest first, so
 -- its tails are the pasts of the earlier rows: `drop k h` is the past of the row that stands k rows before here, and its end, [], is before row 0.
 -- A reading is a test of a past. `since` and its kin are the past-time operators of runtime verification.
 use Rattle.std.specs.Prelude.{ℕ, zero, suc, Bool, true, false, not, ◌&&◌, ◌||◌, cond, List, [], ◌∷◌, length, drop}

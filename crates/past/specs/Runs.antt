@@ -1,4 +1,4 @@
--- Unbroken runs of rows, and the time that they last (document 01: 'Passed n', 'A delay's run', 'the gaps since, added in order'; document 02, jobs 3 and 4).
+-- Unbroken runs of rows, and the time that they last.
 use Rattle.std.specs.Prelude.{ℕ, zero, suc, ◌-◌, ◌^◌, ◌≤◌, ◌≡◌, Bool, not, ◌&&◌, ◌||◌, cond, List, [], ◌∷◌, drop, Float}
 use Rattle.std.specs.Float.{binary64}
 use Rattle.std.specs.Float.Ieee.{add, sub, le}

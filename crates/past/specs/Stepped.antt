@@ -14,7 +14,7 @@ abbrev pub not_before : {A : Type 0} → (A → Float) → Float → List A → 
 not_before time t [] = true
 not_before time t (y ∷ h) = le (time y) t
 
--- the times of accepted rows: each finite with the sign bit clear, none below the one before (document 01, refusals 1 to 3)
+-- the times of accepted rows: each finite with the sign bit clear, none below the one before
 abbrev pub in_order : {A : Type 0} → (A → Float) → List A → Bool
 in_order time [] = true
 in_order time (x ∷ h) = is_time (time x) && not_before time (time x) h && in_order time h

@@ -1,4 +1,4 @@
--- Whole lists of rows, refused ones included (document 01, 'The past, read without state'): what the list alone tells at each place. What a run gives there: `run` of logical.
+-- Whole lists of rows, refused ones included: what the list alone tells at each place. What a run gives there: `run` of logical.
 use Rattle.std.specs.Prelude.{List, [], ◌∷◌, Ok, Err}
 use Rattle.refusals.specs.declared.Refusal.{Refusal}
 use Rattle.refusals.specs.Refusals.{Verdict}

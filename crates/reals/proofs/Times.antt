@@ -1,4 +1,4 @@
--- Times and their differences. A time is finite with the sign bit clear, as refusals 1 and 2 of document 01 leave it. Where a law needs that binary64 holds
+-- Times and their differences. A time is finite with the sign bit clear, as refusals 1 and 2 leave it. Where a law needs that binary64 holds
 -- a number it asks so: every f64 of a program is such a number. Assumes nothing.
 use Prim.Native.Nat.{ℕ, ◌+◌, ◌-◌, ◌*◌, ◌^◌, ◌≤◌, ◌<◌}
 use native.Mathlib.Nat.{mul_comm, mul_assoc, mul_left_comm, mul_right_comm, mul-one, mul-sub, mul-pos, mul-le-mul_right, mul-lt-mul_of_pos_right, zero-mul, one-mul, zero-add, lt_of_mul-lt-mul_right}

@@ -1,4 +1,4 @@
--- Greater and lesser of two numbers (document 01, first paragraph): a NaN loses to a number, and of two equal operands the first is given.
+-- Greater and lesser of two numbers: a NaN loses to a number, and of two equal operands the first is given.
 use Rattle.std.specs.Prelude.{List, Float}
 use Rattle.std.specs.Float.{binary64}
 use Rattle.std.specs.Float.Ieee.{lt, div, is_nan}

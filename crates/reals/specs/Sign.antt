@@ -16,6 +16,6 @@ abs nan = nan
 abs (inf s) = inf false
 abs (fin s m e) = fin false m e
 
--- what refusals 1 and 2 of document 01 leave of a time: finite, with the sign bit clear
+-- what refusals 1 and 2 leave of a time: finite, with the sign bit clear
 abbrev pub is_time : Float → Bool
 is_time x = finite x && not (is_sign_negative x)

@@ -1,4 +1,4 @@
--- Rows so far apart that the window of 512 points never fills: document 01, 'What each row refuses', 4.
+-- Rows so far apart that the window of 512 points never fills: refusal 4.
 use Rattle.std.specs.Prelude.{ℕ, Bool, true, false, ◌&&◌, List, [], ◌∷◌, Float}
 use Rattle.std.specs.Float.{binary64}
 use Rattle.std.specs.Float.Ieee.{sub, le, lt, fits, of_bits}

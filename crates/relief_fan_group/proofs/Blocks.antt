@@ -1,5 +1,5 @@
 -- The relief fan group's state as a function of the past: the moving average and the blocks are stepped over the rows, and the blocks of the two pulses are the
--- readings of document 01. Assumes nothing.
+-- readings. Assumes nothing.
 use mathlib.Core.Path.{◌≡◌, refl, ap, ◌∙◌}
 use mathlib.Core.Bool.{Bool, false, not, ◌&&◌}
 use mathlib.Core.List.{[], ◌∷◌}

@@ -1,5 +1,5 @@
 -- Demand 3 for relief rows: for every list of rows from a fresh start, refused ones included, and every place in it, the row's answer is the refusal that the list
--- alone tells, or else its mean and both pulses are those that document 01 reads off the accepted rows up to there. Assumes nothing.
+-- alone tells, or else its mean and both pulses are those read off the accepted rows up to there. Assumes nothing.
 use Rattle.std.specs.Prelude.{Ok, Err}
 use Prim.Native.Nat.{ℕ, suc, ◌<◌}
 use mathlib.Core.Path.{◌≡◌, refl, ap, ◌∙◌}

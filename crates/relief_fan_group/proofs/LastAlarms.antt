@@ -1,4 +1,4 @@
--- What a state remembers of the alarms, over all lists (document 02, job 10). Assumes nothing.
+-- What a state remembers of the alarms, over all lists. Assumes nothing.
 use Rattle.std.specs.Prelude.{Ok, Err}
 use Prim.Native.Nat.{ℕ, ◌≤◌, ◌<◌}
 use native.Mathlib.Omega.{arith}

@@ -1,4 +1,4 @@
--- A threshold, a timer that tests the present row only, and the pre that feeds its pass back: together they are the pulse of document 01. Once for both ways.
+-- A threshold, a timer that tests the present row only, and the pre that feeds its pass back: together they are the pulse. Once for both ways.
 -- Assumes nothing.
 use mathlib.Core.Path.{◌≡◌, refl, sym, ◌∙◌}
 use mathlib.Core.Bool.{Bool, true, false, not, ◌&&◌, cond}

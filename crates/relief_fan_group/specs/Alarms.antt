@@ -1,4 +1,4 @@
--- The words of case R3 (document 01): the commands of the four fans as lists, a row with other alarms, and a state that remembers others (document 02, job 10).
+-- The words of case R3: the commands of the four fans as lists, a row with other alarms, and a state that remembers others.
 use Rattle.std.specs.Prelude.{List, [], ◌∷◌, ℤ, Float}
 use Rattle.relief_fan_group.specs.declared.types.ReliefRow.{ReliefRow}
 use Rattle.relief_fan_group.specs.declared.types.ReliefBlocks.{ReliefBlocks}

@@ -1,4 +1,4 @@
--- How long until each timer passes, for a display (document 02, job 3); and the timers of a row as a display shows them, read off the past.
+-- How long until each timer passes, for a display; and the timers of a row as a display shows them, read off the past.
 use Rattle.std.specs.Prelude.{Bool, not, ◌&&◌, List, [], ◌∷◌, drop, Float}
 use Rattle.std.specs.Float.{binary64}
 use Rattle.std.specs.Float.Ieee.{add, lt}

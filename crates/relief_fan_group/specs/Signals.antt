@@ -25,7 +25,7 @@ use Rattle.relief_fan_group.specs.declared.types.StageDown.{StageDown}
 use Rattle.relief_fan_group.specs.declared.types.ReliefSignals.{ReliefSignals}
 use Rattle.relief_fan_group.specs.Constants.{pressure_setpoint, min_speed}
 
--- the pressure loop: the mean divided by the setpoint, less 1, limited to 0 to 1 by `f64::clamp`; a NaN stays NaN (document 01, 'Relief pulse')
+-- the pressure loop: the mean divided by the setpoint, less 1, limited to 0 to 1 by `f64::clamp`; a NaN stays NaN
 unfoldable pub pressure_loop : Float → Float
 pressure_loop average = limit (sub binary64 (div binary64 average pressure_setpoint) one) plus_zero one
 

@@ -105,6 +105,6 @@ step_by verdict state row =
     let signals = signals_at state row in
     stepped verdict (relief_commands row signals) (record { window = moving_average_update state.window row.time row.pressure; blocks = relief_next state.blocks row signals }) state
 
--- a row (document 01, 'What each row refuses'): what its verdict makes of it
+-- a row: what its verdict makes of it
 unfoldable pub relief_row : ReliefState → ReliefRow → ReliefStep
 relief_row state row = step_by (relief_verdict state.blocks row (moving_average_is_full state.window row.time)) state row

@@ -1,4 +1,4 @@
--- What a relief row is refused for (document 01, 'What each row refuses'; document 02, job 10).
+-- What a relief row is refused for.
 use Rattle.std.specs.Prelude.{Bool, not, ◌&&◌}
 use Rattle.std.specs.Float.Ieee.Scale.{finite}
 use Rattle.refusals.specs.declared.Refusal.TheVariants.{AlarmOutOfRange, WindowFull}
