@@ -4,16 +4,18 @@ use native.Mathlib.Omega.{arith}
 use mathlib.Core.Path.{◌≡◌, refl, sym, ap, ap₂, ◌∙◌}
 use mathlib.Core.Bool.{Bool, true, false, not, ◌&&◌, ◌||◌, cond}
 use mathlib.Core.List.{List, [], ◌∷◌, ◌++◌, map, zip_with}
-use lib.Dec.{eqb, ltb}
+use lib.Dec.{eqb, ltb, ltb→lt}
+use Rattle.std.specs.Prelude.{Option, None, Some, is_none}
 use lib.ListN.{length, take, drop, get_or, length-drop, length-take, length-map, length-append}
 use lib.Seq.{length-take-le, get_or-take, take_at, slice}
 use lib.Ieee.{Float, nan}
 use borrow.Author.Tests.{lt-ltb, le-ltb, ltb-false, eqb-false}
-use Rattle.reals.proofs.Truth.{table1}
+use Rattle.std.proofs.lemmas.Option.{none-some, some_pair_parts}
+use Rattle.reals.proofs.Truth.{table1, holds}
 use Rattle.moving_average.specs.declared.state.MovingAverageState.{MovingAverageState}
 use Rattle.moving_average.specs.Window.{Point, point, same_time, drop_old, ends_at, store}
 use Rattle.moving_average.specs.State.{held, written, cutoff, mu_now, first_time, moving_average_is_full, moving_average_stored, moving_average_update}
-use Rattle.moving_average.specs.Lent.{leading, last_is, slot}
+use Rattle.moving_average.specs.Lent.{leading, last_is, slot, place}
 use Rattle.moving_average.proofs.Lists.{take_min, map_append, map_take, map_drop, part_of_front}
 use Rattle.moving_average.proofs.Loops.{gone_le}
 use Rattle.moving_average.proofs.Points.{times_of, integrals_of, points_of, first_is, drop_old_is, ends_kept, ends_at_is, store_is}
@@ -56,14 +58,14 @@ unfolding last_is
 last_is_taken t zero ts = refl
 last_is_taken t (suc n) ts = ap (λ (x : Float). same_time x t) (get_or-take (suc n) ts n nan (omega arith))
 
-slot_le : (n : ℕ) (b : Bool) → slot n b ≤ n
+pub slot_le : (n : ℕ) (b : Bool) → slot n b ≤ n
 unfolding slot
 slot_le zero b = omega arith
 slot_le (suc n) true = omega arith
 slot_le (suc n) false = omega arith
 
 -- a window of at most 512 points that is not full has an index for a new one
-slot_room : (n : ℕ) (b : Bool) → n ≤ 512 → eqb n 512 && not b ≡ false → slot n b < 512
+pub slot_room : (n : ℕ) (b : Bool) → n ≤ 512 → eqb n 512 && not b ≡ false → slot n b < 512
 unfolding slot
 slot_room zero b h e = omega arith
 slot_room (suc n) true h e = omega arith
@@ -151,6 +153,38 @@ module _ (s : MovingAverageState) (sized : Sized s) (small : s.count ≤ 512) wh
       next_count =
           ap length next_is ∙ length-append (take (index s t) (drop (gone s t) (held s))) (point t mu ∷ [])
           ∙ ap (λ (n : ℕ). n + 1) (length-take-le (index s t) (drop (gone s t) (held s)) (omega (arith, length-drop (gone s t) (held s), held_length, fit)))
+
+-- ---- where a row at t is put
+abbrev pub position : MovingAverageState → Float → Option (ℕ × ℕ)
+position s t = Some (gone s t, index s t)
+
+module _ (s : MovingAverageState) (sized : Sized s) (t : Float) where
+  place_is : place t s.count s.times ≡ cond (moving_average_is_full s t) None (position s t)
+  unfolding place
+  place_is = ap (λ (b : Bool). cond b None (position s t)) (go (ltb 512 s.count) refl)
+    where
+      go : (b : Bool) → ltb 512 s.count ≡ b → b || (eqb (kept s t) 512 && not (again s t)) ≡ moving_average_is_full s t
+      go true e = sym (full_over s t (ltb→lt 512 s.count (holds (ltb 512 s.count) e)))
+      go false e = sym (full_is s sized (ltb-false 512 s.count e) t)
+
+  pub full_reads : is_none (place t s.count s.times) ≡ moving_average_is_full s t
+  full_reads = ap (λ (r : Option (ℕ × ℕ)). is_none r) place_is ∙ go (moving_average_is_full s t)
+    where
+      go : (b : Bool) → is_none (cond b None (position s t)) ≡ b
+      go true = refl
+      go false = refl
+
+  pub record Placed (k j : ℕ) : Type 0 where
+    pub room : moving_average_is_full s t ≡ false
+    pub dropped : k ≡ gone s t
+    pub at : j ≡ index s t
+
+  pub placed : (k j : ℕ) → place t s.count s.times ≡ Some (k, j) → Placed k j
+  placed k j e = go (moving_average_is_full s t) refl (sym place_is ∙ e)
+    where
+      go : (b : Bool) → moving_average_is_full s t ≡ b → cond b None (position s t) ≡ Some (k, j) → Placed k j
+      go true f p = absurd (none-some _ p)
+      go false f p = let q = some_pair_parts _ _ _ _ p in record { room = f; dropped = sym q.0; at = sym q.1 }
 
 -- ---- the state after storing
 

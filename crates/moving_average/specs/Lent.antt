@@ -1,10 +1,13 @@
 -- Words for the helpers that work on the window's arrays where they stand, lent by reference. Of state.rt only the helper `integrator` is promised in them.
-use Rattle.std.specs.Prelude.{ℕ, zero, suc, Bool, false, cond, List, get_or, Float}
+use Rattle.std.specs.Prelude.{ℕ, zero, suc, ◌-◌, Bool, false, not, ◌&&◌, ◌||◌, cond, eqb, ltb, List, get_or, Float, Option, None, Some}
 use Rattle.std.specs.List.{prefix_len}
 use Rattle.std.specs.Float.{nan}
 use Rattle.std.specs.Float.Ieee.{le}
 use Rattle.moving_average.specs.declared.state.MovingAverageState.{MovingAverageState}
 use Rattle.moving_average.specs.declared.lent.Integrator.{Integrator}
+use Rattle.std.proofs.Math.Seq.{slice}
+use Rattle.moving_average.specs.Constants.{capacity}
+use Rattle.moving_average.specs.State.{cutoff}
 use Rattle.moving_average.specs.Window.{same_time}
 
 -- the state that an integrator and the two arrays beside it are
@@ -25,3 +28,10 @@ last_is t (suc n) times = same_time (get_or times n nan) t
 unfoldable pub slot : ℕ → Bool → ℕ
 slot zero same = zero
 slot (suc n) same = cond same n (suc n)
+
+-- where a row at t is put, of a window of n points with these times: how many points go from its front, and the index of the new one; none without room
+unfoldable pub place : Float → ℕ → List Float → Option (ℕ × ℕ)
+place t n times =
+    let k = leading (cutoff t) (slice 1 n times) in
+    let again = last_is t n times in
+    cond (ltb capacity n || (eqb (n - k) capacity && not again)) None (Some (k, slot (n - k) again))

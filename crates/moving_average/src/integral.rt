@@ -18,9 +18,9 @@ pub fn on_line(t: f64, t0: f64, m0: f64, t1: f64, m1: f64) -> f64
 }
 
 // Helper: the integral at `target`, through the n points and the present one.
-pub fn mu_at<'a>(
-    times: &'a [f64; 512],
-    integrals: &'a [f64; 512],
+pub fn mu_at(
+    times: &[f64; 512],
+    integrals: &[f64; 512],
     n: usize,
     target: f64,
     t_now: f64,

@@ -1,7 +1,9 @@
 // The moving average on arrays that the caller lends, so that a row copies none of them. Helpers: the public operations are those of state.rt.
-ghost use Rattle.std.specs.Prelude.{◌≡◌, ◌≤◌, min, List, Float, length, take, get_or};
+// The two arrays are lent by a reference each, as the C calls give them: a struct of both references needs two clauses more in each function.
+ghost use Rattle.std.specs.Prelude.{◌≡◌, ◌+◌, ◌≤◌, ◌<◌, min, List, Float, length, take, get_or};
+ghost use Rattle.std.specs.Option.{IfSome};
 ghost use Rattle.moving_average.specs.State.{start_time, mu_now, averaged_time, moving_average_output, moving_average_is_full, moving_average_update};
-ghost use Rattle.moving_average.specs.Lent.{joined};
+ghost use Rattle.moving_average.specs.Lent.{joined, place};
 
 use crate::integral::mu_at;
 use crate::state::MovingAverageState;
@@ -60,13 +62,7 @@ impl Integrator {
     }
 
     // Helper: `MovingAverageState::output`.
-    pub fn output<'a>(
-        self,
-        times: &'a [f64; 512],
-        integrals: &'a [f64; 512],
-        t: f64,
-        input: f64,
-    ) -> f64
+    pub fn output(self, times: &[f64; 512], integrals: &[f64; 512], t: f64, input: f64) -> f64
         ensures { result ≡ moving_average_output (joined self times.now integrals.now) t input }
     {
         let start = self.start(t);
@@ -77,17 +73,29 @@ impl Integrator {
         (mu - old) / Self::averaged_time(start, first, t)
     }
 
+    // Where a row at t is put: how many points go, and the index of the new one; none where there is no room.
+    #[tactic(auto, using(crate::proofs::Loops::gone_le, crate::proofs::Held::slot_le, crate::proofs::Held::slot_room), unfolding(crate::specs::Lent::place))]
+    fn place(self, times: &[f64; 512], t: f64) -> Option<(usize, usize)>
+        ensures place { result ≡ place t self.count times.now }
+        ensures in_range { IfSome result (λ p. (p.0 + p.1 ≤ 512) × (p.1 < 512)) }
+    {
+        let n = self.count;
+        if n > 512 {
+            return None;
+        }
+        let k = old_points(times, n, t - MovingAverageState::DELTA);
+        let again = ends_at(times, n, t);
+        if (n - k == 512) & !again {
+            return None;
+        }
+        Some((k, slot(n - k, again)))
+    }
+
     // Helper: `MovingAverageState::is_full`.
-    #[tactic(auto, using(crate::proofs::Held::full_over, crate::proofs::Held::full_is, crate::proofs::Loops::gone_le))]
     pub fn is_full(self, times: &[f64; 512], t: f64) -> bool
         ensures { (integrals : List Float) → length integrals ≡ 512 → result ≡ moving_average_is_full (joined self times.now integrals) t }
     {
-        let n = self.count;
-        if 512 < n {
-            return true;
-        }
-        let kept = n - old_points(times, n, t - MovingAverageState::DELTA);
-        (kept == 512) & !ends_at(times, n, t)
+        self.place(times, t).is_none()
     }
 
     // Helper: `MovingAverageState::update`.
@@ -100,20 +108,16 @@ impl Integrator {
     ) -> Integrator
         ensures { joined result times.new integrals.new ≡ moving_average_update (joined self times.old integrals.old) t input }
     {
-        if self.is_full(times, t) {
+        let Some((k, j)) = self.place(times, t) else {
             return self;
-        }
-        let start = self.start(t);
+        };
         let mu = self.mu_now(t, input);
-        let n = self.count;
-        let k = old_points(times, n, t - MovingAverageState::DELTA);
-        let j = slot(n - k, ends_at(times, n, t));
         put(times, k, j, t);
         put(integrals, k, j, mu);
         Integrator {
-            t_start: start,
+            t_start: self.start(t),
             prev_t: Some(t),
-            mu: mu,
+            mu,
             count: j + 1,
         }
     }
