@@ -1,6 +1,6 @@
 -- The digits of a column read in groups: each group is a number, and the numbers make that of the column. Assumes nothing.
 use Prim.Native.Nat.{ℕ, zero, suc, ◌+◌, ◌-◌, ◌*◌, ◌^◌, ◌≤◌, ◌<◌}
-use mathlib.Core.Path.{◌≡◌, refl, sym, ap, subst, ◌∙◌}
+use mathlib.Core.Path.{◌≡◌, refl, sym, ap, ap₂, subst, ◌∙◌}
 use mathlib.Core.List.{List}
 use mathlib.Core.Bool.{Bool, true, false, ◌&&◌}
 use native.Mathlib.Omega.{arith}
@@ -27,6 +27,9 @@ module _ (p : ℕ → Bool) (c : List ℕ) (at : ℕ) where
   pub every_more : (n : ℕ) → every p c at (suc n) ≡ every p c at n && p (get_or c (at + n) 0)
   unfolding every
   every_more n = refl
+
+  pub every_next : (n b : ℕ) (good : Bool) → good ≡ every p c at n → b ≡ get_or c (at + n) 0 → good && p b ≡ every p c at (n + 1)
+  every_next n b good e f = ap₂ (λ (g : Bool) (x : ℕ). g && p x) e f ∙ sym (ap (λ (k : ℕ). every p c at k) (add-one n) ∙ every_more n)
 
   -- holds of the first and of the last
   pub every_both : (n : ℕ) → every p c at (suc n) ≡ true → (every p c at n ≡ true) × (p (get_or c (at + n) 0) ≡ true)

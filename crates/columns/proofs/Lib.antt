@@ -2,6 +2,7 @@
 pub mod Scanning
 pub mod Inverse
 pub mod Ways
+pub mod Bytes
 pub mod Digits
 pub mod Lanes
 pub mod Writing

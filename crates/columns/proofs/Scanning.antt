@@ -26,7 +26,7 @@ pub data Seen : Type 0 where
 unfoldable pub digit_of : ℕ → ℕ
 digit_of b = cond (ltb b 48) 10 (cond (leb b 57) (b - 48) 10)
 
-abbrev digit_then : ℕ → Seen → Seen
+abbrev pub digit_then : ℕ → Seen → Seen
 digit_then d x = cond (leb d 9) x Bad
 
 abbrev pub step_of : Seen → ℕ → Seen

@@ -1,18 +1,21 @@
 -- One column: the column of a word is read as that word, and a column that is read as a word is its column. Assumes nothing.
-use Prim.Native.Nat.{ℕ, ◌+◌, ◌-◌, ◌≤◌, ◌<◌}
+use Prim.Native.Nat.{ℕ, suc, ◌+◌, ◌-◌, ◌≤◌, ◌<◌}
 use mathlib.Core.Path.{◌≡◌, refl, sym, ap, ◌∙◌}
 use mathlib.Core.List.{List}
 use mathlib.Core.Bool.{Bool, true, false, cond, ◌&&◌, true≢false}
 use native.Mathlib.Omega.{arith}
 use lib.Dec.{ltb, leb, eqb}
 use lib.ListN.{length}
-use lib.IntN.{pos, negsuc}
-use lib.Ieee.{nan, binary64, to_bits}
-use borrow.Author.Tests.{ltb-true, leb-true, leb-false, eqb-true, lt-ltb, le-ltb, le-leb, lt-leb, eq-eqb}
+use lib.IntN.{ℤ, pos, negsuc}
+use mir.ValLaws.{to_z_pos, to_z-neg}
+use mir.Syntax.{w64}
+use lib.Ieee.{Float, nan, inf, fin, binary64, to_bits, is_nan}
+use borrow.Author.Tests.{ltb-true, ltb-false, leb-true, leb-false, eqb-true, lt-ltb, le-leb, lt-leb, eq-eqb}
 use Rattle.columns.specs.Column.{column}
 use Rattle.std.specs.Prelude.{Some, None}
 use Rattle.columns.specs.Scan.{same, decimal, has_minus, limit, number, scan}
-use Rattle.columns.specs.Word.{half, last_word, word_signed}
+use Rattle.std.specs.Int.{cast_signed, cast_unsigned}
+use Rattle.columns.specs.Word.{half, last_word, word_signed, signed_word}
 use Rattle.columns.specs.Forms.{float, yes_no, signed, is_word, is_negative, magnitude, word_column, word_in, no_word, a_word, read_word, largest}
 use Rattle.columns.proofs.Scanning.{by_test}
 use Rattle.columns.proofs.Inverse.{both, same_refl, same_eq, column_decimal, column_minus, length_column, scan_column, scan_was}
@@ -171,15 +174,28 @@ column_plain_word form w h = rw (go (eqb form signed) refl)
 
 -- ---- two's complement
 
-pub negative_word : (w : ℕ) → half ≤ w → negsuc (last_word - w) ≡ word_signed w
+pub word_signed_is : (w : ℕ) → w < limit → cast_signed w64 w ≡ word_signed w
 unfolding word_signed
-negative_word w h = rw (le-ltb _ _ h)
+word_signed_is w h = by (ltb w half) refl
+  where
+    by : (t : Bool) → ltb w half ≡ t → cast_signed w64 w ≡ cond t (pos w) (negsuc (last_word - w))
+    by true e = to_z_pos w64 w (ltb-true w half e)
+    by false e =
+        let n : limit - suc (last_word - w) ≡ w = omega (arith, ltb-false w half e) in
+        ap (λ (k : ℕ). cast_signed w64 k) (sym n) ∙ to_z-neg w64 (last_word - w) (omega (arith, ltb-false w half e))
 
-pub positive_word : (w : ℕ) → w < half → pos w ≡ word_signed w
-unfolding word_signed
-positive_word w h = rw (lt-ltb _ _ h)
+pub signed_word_is : (z : ℤ) → cast_unsigned w64 z ≡ signed_word z
+signed_word_is (pos n) = refl
+signed_word_is (negsuc k) = let e : limit - suc k ≡ last_word - k = omega arith in e
 
 -- ---- a float
+
+-- there is one NaN
+pub nan_is : (x : Float) → is_nan x ≡ true → nan ≡ x
+unfolding is_nan
+nan_is nan e = refl
+nan_is (inf s) e = cc
+nan_is (fin s m k) e = cc
 
 -- any NaN prints 9221120237041090560
 pub nan_prints : word_column float (to_bits binary64 nan) ≡ word_column float 9221120237041090560

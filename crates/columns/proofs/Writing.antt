@@ -1,6 +1,6 @@
 -- Texts written into a buffer: digit by digit, and one after another. Assumes nothing.
 use Prim.Native.Nat.{ℕ, zero, suc, ◌+◌, ◌-◌, ◌*◌, ◌/◌, ◌%◌, ◌^◌, ◌≤◌, ◌<◌}
-use mathlib.Core.Path.{◌≡◌, refl, sym, ap, ap₂, ◌∙◌, subst}
+use mathlib.Core.Path.{◌≡◌, refl, sym, ap, ◌∙◌, subst}
 use mathlib.Core.List.{List, [], ◌∷◌, ◌++◌, append_assoc, append-nil}
 use mathlib.Core.Bool.{Bool, true, false, cond}
 use native.Mathlib.Omega.{arith}
@@ -10,6 +10,8 @@ use lib.ListN.{length, take, drop, set, replicate, length-set, length-replicate,
 use lib.Seq.{take-set-le, set_split, take_at, drop_at, drop-drop, append_snoc, length-take-le, paste-zero}
 use lib.Dec.{ltb}
 use borrow.Author.Tests.{lt-ltb, le-ltb}
+use Rattle.std.specs.Int.{to_le_bytes}
+use mir.Syntax.{w64}
 use Rattle.columns.specs.Column.{mark, pad, text, digits, column, over, Wrote}
 use Rattle.columns.proofs.Scanning.{length_pad, length_text, replicate_snoc}
 
@@ -32,12 +34,6 @@ put_to l at m (suc k) n =
     cond (ltb n 10) (pad_to (set l (at + k) (48 + n % 10)) at m k) (put_to (set l (at + k) (48 + n % 10)) at m k (n / 10))
 
 module _ (l : List ℕ) (at : ℕ) where
-  pub fill_step : (k : ℕ) → 0 < k → fill_to l at k ≡ fill_to (set l (at + (k - 1)) 32) at (k - 1)
-  fill_step zero h = absurd (omega arith)
-  fill_step (suc k) h =
-      let e : suc k - 1 ≡ k = omega arith in
-      rw e
-
   pad_step : (m k : ℕ) → 0 < k → pad_to l at m k ≡ fill_to (set l (at + (k - 1)) m) at (k - 1)
   pad_step m zero h = absurd (omega arith)
   pad_step m (suc k) h =
@@ -170,16 +166,26 @@ byte_over l at x h =
 pub over_both : (l : List ℕ) (at n : ℕ) (a b : List ℕ) → length a ≡ n → at + n ≤ length l → over (over l at a) (at + n) b ≡ over l at (a ++ b)
 over_both l at n a b e h = ap (λ (k : ℕ). over (over l at a) (at + k) b) (sym e) ∙ over_over l at a (omega arith) b
 
--- a text of n bytes, and the byte after it
-pub set_after : (l l' : List ℕ) (at n : ℕ) (t : List ℕ) (x : ℕ) → length t ≡ n → at + n < length l → l' ≡ over l at t → set l' (at + n) x ≡ over l at (t ++ (x ∷ []))
-set_after l l' at n t x e h f =
-    let g : at + n < length (over l at t) = rw (length_over l at t (omega arith)) h in
-    ap (λ (s : List ℕ). set s (at + n) x) f ∙ byte_over (over l at t) (at + n) x g ∙ over_both l at n t (x ∷ []) e (omega arith)
+-- k bytes put into the places from `at` on
+pub placed : (l : List ℕ) (at k count : ℕ) (bytes t : List ℕ) → count ≡ k → bytes ≡ t → length t ≡ k → take at l ++ (bytes ++ drop count (drop at l)) ≡ over l at t
+placed l at k count bytes t m e h =
+    let n : at + k ≡ at + length t = omega arith in
+    ap (λ (b : List ℕ). take at l ++ (b ++ drop count (drop at l))) e
+    ∙ ap (λ (j : ℕ). take at l ++ (t ++ drop j (drop at l))) m
+    ∙ ap (λ (r : List ℕ). take at l ++ (t ++ r)) (drop-drop k at l ∙ ap (λ (j : ℕ). drop j l) n)
+    ∙ sym (append_assoc (take at l) t (drop (at + length t) l))
+
+-- or spaces
+pub spaced : (l : List ℕ) (at k : ℕ) (spaces : List ℕ) → at + k ≤ length l → spaces ≡ replicate (length (take (at + k - at) (drop at l))) 32
+    → take at l ++ (spaces ++ drop (at + k - at) (drop at l)) ≡ over l at (replicate k 32)
+spaced l at k spaces h e =
+    let n : length (take (at + k - at) (drop at l)) ≡ k = length-take-le (at + k - at) (drop at l) (omega (arith, length-drop at l)) ∙ omega arith in
+    placed l at k (at + k - at) spaces (replicate k 32) (omega arith) (e ∙ ap (λ (j : ℕ). replicate j 32) n) (length-replicate k 32)
 
 -- ---- the bytes of a word
 
 -- its w lowest, the lowest first
-abbrev pub bytes : ℕ → ℕ → List ℕ
+abbrev bytes : ℕ → ℕ → List ℕ
 bytes zero x = []
 bytes (suc w) x = x % 256 ∷ bytes w (x / 256)
 
@@ -209,12 +215,16 @@ bytes_eight a b c d e f g h i j k l m n o p =
       bytes_one (48 + h) (omega arith),
     )
 
--- the lowest stored, and the others that are left
-pub bytes_step : (l : List ℕ) (at k w x : ℕ) → at + k < length l → over (set l (at + k) (x % 256)) (at + (k + 1)) (bytes w (x / 256)) ≡ over l (at + k) (bytes (suc w) x)
-bytes_step l at k w x h =
-    let e : at + (k + 1) ≡ at + k + 1 = omega arith in
-    ap₂ (λ (s : List ℕ) (j : ℕ). over s j (bytes w (x / 256))) (byte_over l (at + k) (x % 256) h) e
-    ∙ over_both l (at + k) 1 (x % 256 ∷ []) (bytes w (x / 256)) refl (omega arith)
+-- all eight of a word
+bytes_of : (x : ℕ) → to_le_bytes w64 x ≡ bytes 8 x
+bytes_of x =
+    let p2 : x / 256 / 256 ≡ x / 65536 = omega arith in
+    let p3 : x / 65536 / 256 ≡ x / 16777216 = omega arith in
+    let p4 : x / 16777216 / 256 ≡ x / 4294967296 = omega arith in
+    let p5 : x / 4294967296 / 256 ≡ x / 1099511627776 = omega arith in
+    let p6 : x / 1099511627776 / 256 ≡ x / 281474976710656 = omega arith in
+    let p7 : x / 281474976710656 / 256 ≡ x / 72057594037927936 = omega arith in
+    simp (p2, p3, p4, p5, p6, p7) refl
 
 -- ---- a number written in groups of digits
 
@@ -256,8 +266,8 @@ module _ (n : ℕ) (h : n < 100000000) where
   pub digits_bytes : (x : ℕ)
       → x ≡ 48 + n / 10000000 + 256 * (48 + n / 1000000 % 10 + 256 * (48 + n / 100000 % 10 + 256 * (48 + n / 10000 % 10
       + 256 * (48 + n / 1000 % 10 + 256 * (48 + n / 100 % 10 + 256 * (48 + n / 10 % 10 + 256 * (48 + n % 10)))))))
-      → bytes 8 x ≡ digits 8 n
-  digits_bytes x e = ap (λ (y : ℕ). bytes 8 y) e ∙ packed_eight
+      → to_le_bytes w64 x ≡ digits 8 n
+  digits_bytes x e = bytes_of x ∙ ap (λ (y : ℕ). bytes 8 y) e ∙ packed_eight
 
 text_more : (m w n : ℕ) → 10 ≤ n → text m (suc w) n ≡ text m w (n / 10) ++ ((48 + n % 10) ∷ [])
 text_more m w n h = simp (le-ltb _ _ h)

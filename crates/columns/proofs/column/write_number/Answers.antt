@@ -2,5 +2,5 @@
 use Rattle.columns.proofs.Writing.{column_over}
 use Rattle.columns.proofs.column.write_number.Goals as goal
 
-pub returns-then-n-lt10000000000000000 : goal.returns-then-n-lt10000000000000000
-returns-then-n-lt10000000000000000 c = column_over c.args.out.now _ c.args.at _ c.args.negative c.args.n c.mark.ensures c.write_text.ensures
+pub returns-in-10-to-9999999999999999 : goal.returns-in-10-to-9999999999999999
+returns-in-10-to-9999999999999999 c = column_over c.args.out.now _ c.args.at _ c.args.negative c.args.n c.mark.ensures c.write_text.ensures

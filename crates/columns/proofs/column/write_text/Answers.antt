@@ -1,7 +1,7 @@
 -- `write_text`: digit after digit, the last first; then the mark, then spaces.
 use Rattle.std.proofs.Common.{◌≤◌, ◌+◌, length, arith, sym, ◌∙◌}
 use lib.ListN.{length-set}
-use Rattle.columns.proofs.Writing.{put_more, put_end, put_over, room_more}
+use Rattle.columns.proofs.Writing.{put_more, put_end, put_over, room_more, spaced}
 use Rattle.columns.proofs.column.write_text.Goals as goal
 
 pub loop-rest-init : goal.loop-rest-init
@@ -15,16 +15,10 @@ loop-rest-preserved c =
     let h = room_more l.k l.rest l.invariant.0 c.loop-rest-test.true l.invariant.2 in
     (h.0, omega arith, h.1, sym (put_more _ _ _ l.k l.rest (omega arith) c.loop-rest-test.true) ∙ l.invariant.3)
 
-pub bounds-out-at-3 : goal.bounds-out-at-3
-bounds-out-at-3 c = simp length-set (omega arith)
-
-pub fill-requires : goal.fill-requires
-fill-requires c = simp length-set (omega arith)
-
 pub returns : goal.returns
 returns c =
     let l = c.loop-rest in
     let a = c.args in
     let d : l.rest ≤ 9 = omega arith in
     let g : a.at + l.k ≤ length l.out = omega arith in
-    c.fill.ensures ∙ put_end l.out a.at _ l.k l.rest g l.invariant.0 d ∙ l.invariant.3
+    spaced _ a.at _ _ (simp length-set (omega arith)) (c.fill.ensures.after (λ y e. e)) ∙ put_end l.out a.at _ l.k l.rest g l.invariant.0 d ∙ l.invariant.3

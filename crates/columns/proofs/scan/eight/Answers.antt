@@ -1,14 +1,14 @@
 -- `eight`: its digits joined in lanes of a word.
-use Rattle.std.proofs.Common.{arith, ◌+◌, ◌*◌}
+use Rattle.std.proofs.Common.{arith}
 use Rattle.columns.specs.Scan.{number_at}
 use Rattle.columns.proofs.Lanes.{Joined}
 use Rattle.columns.proofs.Digits.{eight_read}
-use Rattle.columns.proofs.scan.eight.Goals.{After-pairs-high}
+use Rattle.columns.proofs.scan.eight.Goals.{After-from_le_bytes-ones}
 use Rattle.columns.proofs.scan.eight.Goals as goal
 
 -- what is worked from the word of the eight bytes
-known : (c : After-pairs-high) → Joined (c.pairs-low.result + c.pairs-high.result * 4294967296) (number_at c.args.column.now c.args.at 8)
-known c = eight_read c.args.column.now c.args.at c.requires.1 _ (omega arith)
+known : (c : After-from_le_bytes-ones) → Joined c.from_le_bytes-ones.result (number_at c.args.column.now c.args.at 8)
+known c = eight_read c.args.column.now c.args.at c.requires.1 _ (omega (arith, c.from_le_bytes-ones.ensures))
 
 pub overflow_sub-ones : goal.overflow_sub-ones
 overflow_sub-ones c = (known c).least

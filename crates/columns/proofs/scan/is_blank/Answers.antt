@@ -1,18 +1,20 @@
--- `is_blank`: place after place, one that is no space makes it false for good.
-use Rattle.std.proofs.Common.{◌≡◌, ◌+◌, arith, sym, add-one}
+-- `is_blank`: byte after byte, one that is no space makes it false for good.
+use Rattle.std.proofs.Common.{◌≡◌, ◌+◌, arith, sym}
+use Rattle.std.proofs.lemmas.List.{get_or-take}
 use Rattle.columns.specs.Scan.{is_space}
-use Rattle.columns.proofs.Digits.{every_none, every_more}
+use Rattle.columns.proofs.Digits.{every_none, every_next}
 use Rattle.columns.proofs.scan.is_blank.Goals as goal
 
-pub loop-k-init : goal.loop-k-init
-loop-k-init c = (omega arith, sym (every_none is_space c.args.column.now 0))
+pub loop-byte-init : goal.loop-byte-init
+loop-byte-init c = sym (every_none is_space c.args.column.now 0)
 
-pub loop-k-preserved : goal.loop-k-preserved
-loop-k-preserved c =
-    let z : 0 + c.loop-k.k ≡ c.loop-k.k = omega arith in
-    (omega arith, rw (c.loop-k.invariant.1, add-one) (sym (rw z at (every_more is_space c.args.column.now 0 c.loop-k.k))))
+pub loop-byte-preserved : goal.loop-byte-preserved
+loop-byte-preserved c =
+    let i = c.loop-byte.byte-index in
+    let z : 0 + i ≡ i = omega arith in
+    every_next is_space c.args.column.now 0 i _ c.loop-byte.blank c.loop-byte.invariant (rw z (get_or-take 20 c.args.column.now i 0 (omega arith)))
 
 pub returns : goal.returns
 returns c =
-    let e : c.loop-k.k ≡ 20 = omega arith in
-    rw e at c.loop-k.invariant.1
+    let e : c.loop-byte.byte-index ≡ 20 = omega arith in
+    rw e at c.loop-byte.invariant
