@@ -1,4 +1,4 @@
--- Cases R1 and R2 of document 01: the mean of the first row, at any time and pressure, and of the second, computed. Assumes nothing.
+-- Cases R1 and R2: the mean of the first row, at any time and pressure, and of the second, computed. Assumes nothing.
 use Prim.Native.Nat.{ℕ, zero, suc, ◌*◌, ◌<◌}
 use native.Mathlib.Nat.{mul-pos, mul-zero, mul-one, zero-mul, zero-lt-suc}
 use native.Mathlib.Omega.{arith}

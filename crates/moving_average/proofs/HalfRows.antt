@@ -1,4 +1,4 @@
--- Case R5 of document 01, computed from the reading: rows each 0.5 s from 0. 512 are accepted, the row at 256 is refused, 300 would be too, 300.5 is taken. Assumes nothing.
+-- Case R5, computed from the reading: rows each 0.5 s from 0. 512 are accepted, the row at 256 is refused, 300 would be too, 300.5 is taken. Assumes nothing.
 use Prim.Native.Nat.{ℕ, zero, suc, ◌<◌, ◌≤◌}
 use native.Mathlib.Omega.{arith}
 use mathlib.Core.Path.{◌≡◌, refl, ap₂, ◌∙◌}

@@ -1,4 +1,4 @@
--- The window read off the rows before, without state (document 01, 'The past, read without state'). A past is the list of the accepted rows before, or of their
+-- The window read off the rows before, without state. A past is the list of the accepted rows before, or of their
 -- times, newest first.
 use Rattle.std.specs.Prelude.{Bool, true, false, not, ◌&&◌, cond, List, [], ◌∷◌, eqb, length, Float}
 use Rattle.std.specs.Float.Ieee.{le, lt, eq}

@@ -1,5 +1,5 @@
 -- CDL.Reals.MovingAverage with delta = 300 s, sampled at the rows: `MovingAverageState` of relief_fan_group.rs. The window's points stand in two arrays of 512
--- with a count (document 01, 'What changes shape').
+-- with a count.
 use Rattle.std.specs.Prelude.{Bool, not, ◌&&◌, ◌||◌, cond, eqb, ltb, length, take, drop, replicate, Float, Option, None, Some, is_none}
 use mathlib.Core.List.{List, [], ◌∷◌, ◌++◌, map, zip_with}
 use Rattle.std.specs.Float.{binary64}
@@ -58,7 +58,7 @@ moving_average_output s t input =
 
 -- ---- the next state
 
--- refusal 4 of document 01: after dropping old points the window holds 512 and the last point's time differs, or the state counts more than 512 points
+-- refusal 4: after dropping old points the window holds 512 and the last point's time differs, or the state counts more than 512 points
 unfoldable pub moving_average_is_full : MovingAverageState → Float → Bool
 moving_average_is_full s t =
     let window = drop_old (cutoff t) (held s) in

@@ -39,6 +39,7 @@ impl MovingAverageState {
     }
 
     // Before row 0.
+    #[tactic(auto, unfolding(crate::specs::State::moving_average_new))]
     pub fn new() -> Self
         ensures { result ≡ moving_average_new }
     {

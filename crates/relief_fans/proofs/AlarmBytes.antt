@@ -1,4 +1,4 @@
--- An alarm that a signed byte holds is kept as it came (document 02, job 10). Assumes nothing.
+-- An alarm that a signed byte holds is kept as it came. Assumes nothing.
 use Prim.Native.Nat.{ℕ, zero, suc, ◌<◌}
 use native.Mathlib.Omega.{arith}
 use mathlib.Core.Path.{◌≡◌, refl, sym, ◌∙◌}

@@ -1,4 +1,4 @@
--- The alarm guard (document 01, R3), for every fan and every row: an unproven fan at alarm 2 has damper 0, and no other alarm is touched.
+-- The alarm guard, for every fan and every row: an unproven fan at alarm 2 has damper 0, and no other alarm is touched.
 -- Assumes nothing.
 use Prim.Native.Nat.{ℕ}
 use mathlib.Core.Path.{◌≡◌, refl}

@@ -1,4 +1,4 @@
--- The alarms of the four fans in a signed byte each (document 02, job 10).
+-- The alarms of the four fans in a signed byte each, so that a state is small.
 use Rattle.std.specs.Prelude.{ℕ, Bool, not, cond, ◌&&◌, List, ℤ, pos, negsuc}
 use Rattle.std.specs.Int.Signed.{lt_z}
 use Rattle.reals.specs.Four.{each4}

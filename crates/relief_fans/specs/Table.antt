@@ -1,4 +1,4 @@
--- The fan constants of ReliefFanGroup.mo (staVec, relFanMat) as relief_fan_group.rs sets them: document 01, 'The fan constants form a table'.
+-- The fan constants of ReliefFanGroup.mo (staVec, relFanMat) as relief_fan_group.rs sets them; the code keeps them in a table of bytes.
 use Rattle.std.specs.Prelude.{ℕ, Bool, List, [], ◌∷◌, get_or, Float}
 use Rattle.std.specs.Float.{binary64}
 use Rattle.std.specs.Float.Ieee.{add, mul}
