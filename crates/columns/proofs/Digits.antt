@@ -14,7 +14,7 @@ use Rattle.columns.specs.Scan.{is_space, is_digit, every, number_at, limit, numb
 use Rattle.columns.proofs.Scanning.{Blank, Number, scan_to}
 use Rattle.columns.proofs.Inverse.{both}
 use Rattle.columns.proofs.Lanes.{word_of, Joined, joined}
-use Rattle.columns.proofs.Ways.{space_more, no_sign, first_digit, next_digit, too_large, whole}
+use Rattle.columns.proofs.Ways.{space_more, first_digit, next_digit, too_large, whole}
 
 -- ---- a test of each byte
 
@@ -194,10 +194,7 @@ module _ (c : List ℕ) (long : length c ≡ 21) where
   -- then one digit
   pub digit_seen : every is_space c 0 20 ≡ true → 48 ≤ get_or c 20 0 → get_or c 20 0 ≤ 57 → Some (number false (get_or c 20 0 - 48)) ≡ scan c
   digit_seen e a b =
-      let s : get_or c 20 0 ≡ 32 → ⊥ = λ f. omega arith in
-      let m : get_or c 20 0 ≡ 45 → ⊥ = λ f. omega arith in
-      let l = no_sign c long 20 (spaces_seen 20 e) s m in
-      whole c long 21 false _ (first_digit c long 20 false l (omega arith) a b) refl
+      whole c long 21 false _ (first_digit c long 20 (spaces_seen 20 e) a b) refl
 
   -- or digits, the first of them no 0
   digits_seen : (at n : ℕ) → scan_to c at ≡ Blank → (get_or c at 0 ≡ 48 → ⊥) → at + suc n ≤ 21 → every is_digit c at (suc n) ≡ true
@@ -205,9 +202,7 @@ module _ (c : List ℕ) (long : length c ≡ 21) where
   digits_seen at zero e z h d f =
       let o : at + 0 ≡ at = omega arith in
       let g : (48 ≤ get_or c at 0) × (get_or c at 0 ≤ 57) = rw o at (a_digit_at c at 0 1 d (omega arith)) in
-      let s : get_or c at 0 ≡ 32 → ⊥ = λ b. omega arith in
-      let m : get_or c at 0 ≡ 45 → ⊥ = λ b. omega arith in
-      let i = first_digit c long at false (no_sign c long at e s m) (omega arith) g.0 g.1 in
+      let i = first_digit c long at e g.0 g.1 in
       rw (add-one, number_one c at) (i, omega (arith, z))
   digits_seen at (suc n) e z h d f =
       let b = every_both is_digit c at (suc n) d in

@@ -109,16 +109,8 @@ fn eight(column: &[u8; 21], at: usize) -> u64
     requires { (at + 8 ≤ 21) × (every is_digit column.now at 8 ≡ true) }
     ensures { result ≡ number_at column.now at 8 }
 {
-    let bytes = [
-        column[at],
-        column[at + 1],
-        column[at + 2],
-        column[at + 3],
-        column[at + 4],
-        column[at + 5],
-        column[at + 6],
-        column[at + 7],
-    ];
+    let mut bytes = [0; 8];
+    bytes.copy_from_slice(&column[at..at + 8]);
     let ones = u64::from_le_bytes(bytes) - 0x3030_3030_3030_3030;
     let twos = (ones * 10 + ones / 256) & 0x00ff_00ff_00ff_00ff;
     let fours = (twos * 100 + twos / 65536) & 0x0000_ffff_0000_ffff;

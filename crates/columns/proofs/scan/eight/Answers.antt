@@ -1,5 +1,6 @@
 -- `eight`: its digits joined in lanes of a word.
-use Rattle.std.proofs.Common.{arith}
+use Rattle.std.proofs.Common.{ℕ, List, ◌≡◌, ◌+◌, ◌-◌, ◌<◌, get_or, drop, arith, ap, ◌∙◌}
+use Rattle.std.proofs.lemmas.List.{get_or-take, get_or-drop}
 use Rattle.columns.specs.Scan.{number_at}
 use Rattle.columns.proofs.Lanes.{Joined}
 use Rattle.columns.proofs.Digits.{eight_read}
@@ -8,7 +9,15 @@ use Rattle.columns.proofs.scan.eight.Goals as goal
 
 -- what is worked from the word of the eight bytes
 known : (c : After-from_le_bytes-ones) → Joined c.from_le_bytes-ones.result (number_at c.args.column.now c.args.at 8)
-known c = eight_read c.args.column.now c.args.at c.requires.1 _ (omega (arith, c.from_le_bytes-ones.ensures))
+known c =
+    let column = c.args.column.now in
+    let at = c.args.at in
+    let copied = c.copy_from_slice.ensures.after in
+    let byte : (i : ℕ) → i < 8 → get_or c.copy_from_slice.new.self i 0 ≡ get_or column (at + i) 0 =
+    λ i h. ap (λ (l : List ℕ). get_or l i 0) copied ∙ get_or-take (at + 8 - at) (drop at column) i 0 (omega arith) ∙ get_or-drop at column i 0 in
+    let b0 : get_or c.copy_from_slice.new.self 0 0 ≡ get_or column at 0 = byte 0 (omega arith) ∙ ap (λ (k : ℕ). get_or column k 0) (omega arith) in
+    eight_read column at c.requires.1 _
+    (omega (arith, c.from_le_bytes-ones.ensures, b0, byte 1 (omega arith), byte 2 (omega arith), byte 3 (omega arith), byte 4 (omega arith), byte 5 (omega arith), byte 6 (omega arith), byte 7 (omega arith)))
 
 pub overflow_sub-ones : goal.overflow_sub-ones
 overflow_sub-ones c = (known c).least
