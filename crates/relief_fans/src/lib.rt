@@ -1,4 +1,4 @@
-// The four relief fans of ReliefFanGroup.mo, as relief_fan_group.rs has them: what is worked fan by fan, in plain loops over arrays of four.
+// The four relief fans of ReliefFanGroup.mo, as relief_fan_group.rs has them: what is worked fan by fan, over arrays of four.
 #![tactic(auto)]
 
 pub mod table; // which supply fan a relief fan is on, and its weight
