@@ -19,7 +19,7 @@ ABOUT = {
     'relief_words': 'the relief fan group',
     'reader_words': 'the row reader',
 }
-# what is asked of a type: `of`, its words; `value`, what words stand for; `zero`, words that are all 0
+# what is asked of a type: `of`, its words; `value`, what words stand for; `zero`, words that are all 0 by default
 STATES = ['FreezeState', 'EconomizerState', 'ReliefBlocks', 'Integrator', 'RowReader']
 ROWS = ['FreezeRow', 'EconomizerRow', 'ReliefRow']
 GIVEN = ['FreezeCommands', 'EconomizerCommands', 'ReliefCommands', 'FreezeSignals', 'EconomizerSignals', 'ReliefSignals', 'FreezeLeft', 'ReliefLeft']
@@ -27,8 +27,8 @@ FOLDERS = [f'crates/{crate}/{part}' for crate in ABOUT for part in ('src', 'spec
 
 
 def by_hand(path):
-    """Whether a file of these crates is not this script's: what a flag is as a word, and lists of two and four."""
-    return path.startswith('crates/block_words/') and path.split('/', 3)[3].split('/')[0] in ('flags.rt', 'Flags.antt', 'flags', 'Elements.antt')
+    """Whether a file of these crates is not this script's: what a flag is as a word, and what holds of lists."""
+    return path in ('crates/block_words/specs/Flags.antt', 'crates/block_words/proofs/Elements.antt')
 
 
 def declarations(root):
@@ -36,17 +36,17 @@ def declarations(root):
 
 
 def asked(types):
-    """What is asked of each type, and of arrays of it: {name: set}, {(name, length): set}."""
-    wants, arrays = {}, {}
+    """What is asked of each type, and of lists of it: {name: set}, {(name, length): set}."""
+    wants, lists = {}, {}
 
     def ask(kind, what):
-        found = declared.array(kind)
-        kind = found[0] if found else kind
-        if kind in declared.PLAIN:
+        one = declared.element(kind)
+        if one in declared.PLAIN or one == 'bool':
             return
-        if found and what != 'zero':
-            arrays.setdefault(found, set()).add(what)
-        if kind == 'bool' or what in wants.setdefault(kind, set()):
+        if one != kind and what != 'zero':
+            lists.setdefault(declared.array(kind), set()).add(what)
+        kind = one
+        if what in wants.setdefault(kind, set()):
             return
         wants[kind].add(what)
         for part in parts(types[kind]):
@@ -56,7 +56,7 @@ def asked(types):
         for name in names:
             for what in all_asked:
                 ask(name, what)
-    return wants, arrays
+    return wants, lists
 
 
 def parts(kind):
@@ -80,12 +80,12 @@ def ordered(types, wants):
 
 
 def files(types):
-    wants, arrays = asked(types)
+    wants, lists = asked(types)
     order = ordered(types, wants)
     found = {}
     for crate, about in ABOUT.items():
         mine = [types[name] for name in order if HOMES[types[name].crate] == crate]
-        writer = texts.Writer(crate, types, HOMES, wants, arrays)
+        writer = texts.Writer(crate, types, HOMES, wants, lists)
         for kind in mine:
             found.update(writer.files(kind))
         found.update(writer.tables(mine, about))

@@ -4,7 +4,7 @@ import re
 
 from . import declared
 
-COUNTS = {2: 'two', 4: 'four'}
+COUNTS = {4: 'four'}
 MADE = 'Written by tools/words.'
 
 
@@ -35,8 +35,8 @@ def applied(name, text):
 class Names:
     """The names of one crate of words."""
 
-    def __init__(self, crate, types, homes, wants, arrays):
-        self.crate, self.types, self.homes, self.wants, self.arrays = crate, types, homes, wants, arrays
+    def __init__(self, crate, types, homes, wants, lists):
+        self.crate, self.types, self.homes, self.wants, self.lists = crate, types, homes, wants, lists
 
     # ---- where things stand
 
@@ -62,8 +62,9 @@ class Names:
         home = self.home(kind)
         return f'crate::{kind.file}' if home == self.crate else f'{home}::{kind.file}'
 
-    def flags_module(self):
-        return 'crate::flags' if self.crate == 'block_words' else 'block_words::flags'
+    def flags_specs(self):
+        """The same page as src names it."""
+        return 'crate::specs::Flags' if self.crate == 'block_words' else 'block_words::specs::Flags'
 
     def origin(self, kind):
         """The type itself as src names it."""
@@ -131,19 +132,22 @@ class Names:
         return text
 
     def call(self, part, what):
-        """The function that a part goes through, as src calls it; None for a part that stays as it is."""
-        found = declared.array(part)
+        """The conversion of a part, as src calls it; None for a part that stays as it is."""
         one = declared.element(part)
         if one in declared.PLAIN:
             return None
-        if found:
-            base = 'flag' if one == 'bool' else self.types[one].file
-            name = f'{base}_{"words" if what == "of" else "values"}_of_{COUNTS[found[1]]}'
-            return name + '({})'
         if one == 'bool':
-            name = 'flag_word' if what == 'of' else 'word_flag'
-            return name + '({})'
-        return self.types[one].words + '::of({})' if what == 'of' else '{}.value()'
+            if declared.array(part):
+                return '{}.map(u64::from)' if what == 'of' else '{}.map(|word| word != 0)'
+            return 'u64::from({})' if what == 'of' else '{} != 0'
+        kind = self.types[one]
+        if declared.array(part):
+            return self.list_call(kind, declared.array(part)[1], what) + '({})'
+        return f'{kind.words if what == "of" else kind.typed.split("<")[0]}::from({{}})'
+
+    def list_call(self, kind, length, what):
+        """The function that makes a list of a type over."""
+        return f'{kind.file}_{"words" if what == "of" else "values"}_of_{COUNTS[length]}'
 
     def spec_call(self, part, what, text):
         """What a part becomes, as a definition says it."""

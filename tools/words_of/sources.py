@@ -1,4 +1,4 @@
-"""The source of the words of a type: the struct, and the functions to and fro."""
+"""The source of the words of a type: the struct, and the conversions to and fro."""
 
 from . import declared
 from .names import MADE, Names, held, word_fields
@@ -19,79 +19,84 @@ class Sources(Names):
         found = set() if self.library(kind) else {self.origin(kind)}
         for part in [part for _, part in kind.fields or kind.variants if part]:
             one = declared.element(part)
-            if one in declared.PLAIN:
-                continue
-            module = self.flags_module() if one == 'bool' else self.module(self.types[one])
-            if one != 'bool':
-                found.add(f'{module}::{self.types[one].words}')
-            if one == 'bool' or declared.array(part):
-                found |= {f'{module}::' + self.call(part, what).split('(')[0] for what in asked - {'zero'}}
+            if one in self.types:
+                found.add(f'{self.module(self.types[one])}::{self.types[one].words}')
+                if declared.array(part):
+                    found |= {f'{self.module(self.types[one])}::{self.list_call(self.types[one], declared.array(part)[1], what)}' for what in asked - {'zero'}}
+                elif 'value' in asked and not self.library(self.types[one]):
+                    found.add(self.origin(self.types[one]))
         return sorted(found, key=lambda path: (not path.startswith('crate::'), path))
 
-    def source(self, kind, asked, mine):
-        names = [name for what, name in (('of', kind.to), ('value', kind.back), ('zero', kind.zero)) if what in asked]
-        lines = [f'// `{kind.typed}` {self.of_crate(kind)}as words. {MADE}', 'ghost use Rattle.std.specs.Prelude.{' + ('◌≡◌, map' if mine else '◌≡◌') + '};']
+    def source(self, kind, asked):
+        names = [name for what, name in (('of', kind.to), ('value', kind.back)) if what in asked]
+        lines = [f'// `{kind.typed}` {self.of_crate(kind)}as words. {MADE}', 'ghost use Rattle.std.specs.Prelude.{◌≡◌' + (', map' if self.lists_of(kind) else '') + '};']
         lines += [f'ghost use Rattle.{self.crate}.specs.{kind.page}.{{{", ".join(names)}}};', '']
         lines += grouped(self.uses(kind, asked))
-        lines += ['', '#[repr(C)]', '#[derive(Clone, Copy)]', f'pub struct {kind.words} {{']
+        derives = ['Clone', 'Copy'] + (['Default'] if 'zero' in asked else [])
+        lines += ['', '#[repr(C)]', f'#[derive({", ".join(derives)})]', f'pub struct {kind.words} {{']
         lines += [f'    pub {name}: {self.words_type(part)},' for name, part in (held(kind) if kind.variants else word_fields(kind))]
-        lines += ['}', '', f'impl {kind.words} {{']
-        bodies = []
+        lines += ['}']
         if 'of' in asked:
-            bodies.append(self.of_enum(kind) if kind.variants else self.of_struct(kind))
+            body = self.of_enum(kind) if kind.variants else self.of_struct(kind)
+            lines += self.conversion(kind.typed, kind.words, f'λ s w. w ≡ {kind.to} s', kind, 'of', body)
         if 'value' in asked:
-            bodies.append(self.value_enum(kind) if kind.variants else self.value_struct(kind))
-        if 'zero' in asked:
-            bodies.append(self.zero_struct(kind))
-        lines += ['\n\n'.join(bodies), '}']
-        for length, what in mine:
-            lines += ['', self.array_source(kind, length, what)]
+            body = self.value_enum(kind) if kind.variants else self.value_struct(kind)
+            lines += self.conversion(kind.words, kind.typed, f'λ w s. s ≡ {kind.back} w', kind, 'value', body)
+        for length, what in self.lists_of(kind):
+            lines += self.list_made(kind, length, what)
         return '\n'.join(lines) + '\n'
 
-    def tactic(self, kind, name):
-        """The definition that a function's proof opens, the rest is found; and that the compiler takes it into its caller: else a call of the
-        archives makes whole states on its stack to copy them."""
-        return f'    #[tactic(auto, unfolding(crate::specs::{kind.page}::{name}))]\n    #[inline(always)]'
+    def lists_of(self, kind):
+        """The lists of a type that are made over, by their lengths."""
+        return [(length, what) for (name, length), all_what in sorted(self.lists.items()) if name == kind.name for what in sorted(all_what)]
 
-    def copies(self, owner, fields):
-        """A field that is no number is copied before it is handed on."""
-        return [f'        let {name} = {owner}.{name};' for name, part in fields if declared.array(part) or declared.element(part) not in (*declared.PLAIN, 'bool')]
+    def list_made(self, kind, length, what):
+        """A list made over: by a function, since of a struct with eight of them the check does not find the proof."""
+        name, argument = self.list_call(kind, length, what), 'values' if what == 'of' else 'words'
+        given, made = (kind.typed, kind.words) if what == 'of' else (kind.words, kind.typed)
+        return ['', '#[inline(always)]', f'pub fn {name}({argument}: [{given}; {length}]) -> [{made}; {length}]',
+                f'    ensures {{ result ≡ map {kind.to if what == "of" else kind.back} {argument} }}', '{', f'    {argument}.map({made}::from)', '}']
 
-    def fields_made(self, owner, kind, what):
-        lines = []
-        for name, part in word_fields(kind) if what == 'of' else kind.fields:
-            if (name, part) not in kind.fields:
-                lines.append(f'            {name}: {self.zero_of(part)},')
-                continue
-            call = self.call(part, what)
-            copied = declared.array(part) or declared.element(part) not in (*declared.PLAIN, 'bool')
-            text = name if copied else f'{owner}.{name}'
-            if call:
-                text = call.format(text)
-            lines.append(f'            {name},' if text == name else f'            {name}: {text},')
-        return lines
+    def conversion(self, given, made, gives, kind, what, body):
+        """An `impl From`. Its proof opens the definitions, the rest is found. The compiler takes it into its caller: else a call of the archives
+        makes whole states on its stack to copy them."""
+        opened = [f'crate::specs::{kind.page}::{kind.to if what == "of" else kind.back}']
+        if any(part and declared.element(part) == 'bool' for _, part in kind.fields or kind.variants):
+            opened.append(f'{self.flags_specs()}::{"flag_word" if what == "of" else "word_flag"}')
+        argument = 'value' if what == 'of' else 'words'
+        remark = [f'    // {self.remark(kind, what)}'] if kind.variants else []
+        return ['', f'impl From<{given}> for {made} {{', f'    ghost from_gives = {{ {gives} }};', '', *remark,
+                f'    #[tactic(auto, unfolding({", ".join(opened)}))]', '    #[inline(always)]',
+                f'    fn from({argument}: {given}) -> Self {{', *body, '    }', '}']
+
+    def remark(self, kind, what):
+        if what == 'of':
+            return 'The number of the variant, and what it holds; 0 for what the others would.'
+        return f'A number that no variant has is read as `{kind.variants[-1][0]}`.'
+
+    def made_of(self, owner, name, part, what):
+        """A field of what is made."""
+        return (self.call(part, what) or '{}').format(f'{owner}.{name}')
+
+    def struct_made(self, owner, made, fields, kind, what):
+        """A struct made of another. The borrow checker takes an array into a struct from a variable only."""
+        lists = [(name, part) for name, part in kind.fields if declared.array(part)]
+        lines = [f'        let {name} = {self.made_of(owner, name, part, what)};' for name, part in lists] + [f'        {made} {{']
+        for name, part in fields:
+            if (name, part) in lists:
+                lines.append(f'            {name},')
+            else:
+                lines.append(f'            {name}: {self.made_of(owner, name, part, what) if (name, part) in kind.fields else self.zero_of(part)},')
+        return lines + ['        }']
 
     def of_struct(self, kind):
-        lines = [self.tactic(kind, kind.to), f'    pub fn of(value: {kind.typed}) -> Self', f'        ensures {{ result ≡ {kind.to} value }}', '    {']
-        lines += self.copies('value', kind.fields)
-        return '\n'.join(lines + [f'        {kind.words} {{', *self.fields_made('value', kind, 'of'), '        }', '    }'])
+        return self.struct_made('value', kind.words, word_fields(kind), kind, 'of')
 
     def value_struct(self, kind):
-        lines = [self.tactic(kind, kind.back), f'    pub fn value(self) -> {kind.typed}', f'        ensures {{ result ≡ {kind.back} self }}', '    {']
-        lines += self.copies('self', kind.fields)
-        return '\n'.join(lines + [f'        {kind.name} {{', *self.fields_made('self', kind, 'value'), '        }', '    }'])
-
-    def zero_struct(self, kind):
-        lines = [self.tactic(kind, kind.zero), '    pub fn zero() -> Self', f'        ensures {{ result ≡ {kind.zero} }}', '    {', f'        {kind.words} {{']
-        for name, part in word_fields(kind):
-            one = declared.element(part)
-            text = f'{self.types[one].words}::zero()' if one in self.types and not declared.array(part) else self.zero_of(part)
-            lines.append(f'            {name}: {text},')
-        return '\n'.join(lines + ['        }', '    }'])
+        return self.struct_made('words', kind.name, kind.fields, kind, 'value')
 
     def of_enum(self, kind):
-        lines = ['    // The number of the variant, and what it holds; 0 for what the others would.', self.tactic(kind, kind.to), f'    pub fn of(value: {kind.typed}) -> Self',
-                 f'        ensures {{ result ≡ {kind.to} value }}', '    {', '        match value {']
+        lines = ['        match value {']
         for at, (name, part) in enumerate(kind.variants):
             name_held = kind.holds[name]
             fields = [f'variant: {at}']
@@ -103,31 +108,15 @@ class Sources(Names):
                     fields.append(f'{kind.holds[other]}: {self.zero_of(its)}')
             pattern = self.variant(kind, name) + (f'({name_held})' if part else '')
             lines.append(f'            {pattern} => {kind.words} {{ {", ".join(fields)} }},')
-        return '\n'.join(lines + ['        }', '    }'])
+        return lines + ['        }']
 
     def value_enum(self, kind):
-        last = kind.variants[-1][0]
-        lines = [f'    // A number that no variant has is read as `{last}`.', self.tactic(kind, kind.back), f'    pub fn value(self) -> {kind.typed}',
-                 f'        ensures {{ result ≡ {kind.back} self }}', '    {']
-        lines.append('        let variant = self.variant;')
-        lines += self.copies('self', held(kind))
+        lines = ['        match words.variant {']
         for at, (name, part) in enumerate(kind.variants):
             text = self.variant(kind, name)
             if part:
-                call = self.call(part, 'value')
-                text += f'({call.format(kind.holds[name])})' if call else f'(self.{kind.holds[name]})'
-            if name == last:
-                lines.append(f'        {text}')
-            else:
-                lines += [f'        if variant == {at} {{', f'            return {text};', '        }']
-        return '\n'.join(lines + ['    }'])
-
-    def array_source(self, kind, length, what):
-        name = self.call(f'[{kind.name}; {length}]', what).split('(')[0]
-        given, made = (kind.name, kind.words) if what == 'of' else (kind.words, kind.name)
-        argument, function = ('values', kind.to) if what == 'of' else ('words', kind.back)
-        call = f'{kind.words}::of({{}})' if what == 'of' else '{}.value()'
-        places = ['first', 'second', 'third', 'fourth'][:length]
-        lines = [f'pub fn {name}({argument}: [{given}; {length}]) -> [{made}; {length}]', f'    ensures {{ result ≡ map {function} {argument} }}', '{']
-        lines += [f'    let {place} = {argument}[{at}];' for at, place in enumerate(places)]
-        return '\n'.join(lines + ['    [' + ', '.join(call.format(place) for place in places) + ']', '}'])
+                call = self.call(part, 'value') or '{}'
+                text += f'({call.format(f"words.{kind.holds[name]}")})'
+            number = '_' if name == kind.variants[-1][0] else at
+            lines.append(f'            {number} => {text},')
+        return lines + ['        }']

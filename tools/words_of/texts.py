@@ -11,16 +11,15 @@ class Writer(Sources, Definitions, Proofs):
 
     def files(self, kind):
         asked = self.wants[kind.name]
-        mine = [(length, what) for (one, length), all_what in sorted(self.arrays.items()) if one == kind.name for what in sorted(all_what)]
         return {
-            f'{self.crate}/src/{kind.file}.rt': self.source(kind, asked, mine),
+            f'{self.crate}/src/{kind.file}.rt': self.source(kind, asked),
             f'{self.crate}/specs/{kind.page}.antt': self.definitions(kind, asked),
         }
 
     def tables(self, mine, about):
         what = 'as words of 8 bytes that a caller in C can hold'
-        first = ['pub mod flags; // a flag'] if self.crate == 'block_words' else []
-        source = [f'// What C holds of {about}: the fields of each type in their order, {what}. {MADE}', '#![tactic(auto)]', ''] + first + [f'pub mod {kind.file};' for kind in mine]
+        first = self.crate == 'block_words'
+        source = [f'// What C holds of {about}: the fields of each type in their order, {what}. {MADE}', '#![tactic(auto)]', ''] + [f'pub mod {kind.file};' for kind in mine]
         pages = [f'-- What C holds of {about}, {what}, and what words stand for (docs/DECISIONS.md, \'In firmware\'). {MADE}']
         pages += (['pub mod Flags'] if first else []) + [f'pub mod {kind.page}' for kind in mine]
         proofs = [f'-- That the words of {about} stand for it. {MADE}'] + (['pub mod Elements'] if first else []) + ['pub mod Back']

@@ -2,7 +2,6 @@
 ghost use Rattle.std.specs.Prelude.{◌≡◌};
 ghost use Rattle.block_words.specs.Edge.{edge_words, edge_of};
 
-use crate::flags::{flag_word, word_flag};
 use logical::edge::EdgeState;
 
 #[repr(C)]
@@ -11,24 +10,26 @@ pub struct EdgeWords {
     pub previous: u64,
 }
 
-impl EdgeWords {
-    #[tactic(auto, unfolding(crate::specs::Edge::edge_words))]
+impl From<EdgeState> for EdgeWords {
+    ghost from_gives = { λ s w. w ≡ edge_words s };
+
+    #[tactic(auto, unfolding(crate::specs::Edge::edge_words, crate::specs::Flags::flag_word))]
     #[inline(always)]
-    pub fn of(value: EdgeState) -> Self
-        ensures { result ≡ edge_words value }
-    {
+    fn from(value: EdgeState) -> Self {
         EdgeWords {
-            previous: flag_word(value.previous),
+            previous: u64::from(value.previous),
         }
     }
+}
 
-    #[tactic(auto, unfolding(crate::specs::Edge::edge_of))]
+impl From<EdgeWords> for EdgeState {
+    ghost from_gives = { λ w s. s ≡ edge_of w };
+
+    #[tactic(auto, unfolding(crate::specs::Edge::edge_of, crate::specs::Flags::word_flag))]
     #[inline(always)]
-    pub fn value(self) -> EdgeState
-        ensures { result ≡ edge_of self }
-    {
+    fn from(words: EdgeWords) -> Self {
         EdgeState {
-            previous: word_flag(self.previous),
+            previous: words.previous != 0,
         }
     }
 }

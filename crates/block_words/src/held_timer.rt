@@ -2,7 +2,6 @@
 ghost use Rattle.std.specs.Prelude.{◌≡◌};
 ghost use Rattle.block_words.specs.HeldTimer.{held_timer_words, held_timer_of};
 
-use crate::flags::{flag_word, word_flag};
 use crate::seen::SeenWords;
 use logical::held_timer::HeldTimerState;
 
@@ -15,32 +14,32 @@ pub struct HeldTimerWords {
     pub passed: u64,
 }
 
-impl HeldTimerWords {
-    #[tactic(auto, unfolding(crate::specs::HeldTimer::held_timer_words))]
+impl From<HeldTimerState> for HeldTimerWords {
+    ghost from_gives = { λ s w. w ≡ held_timer_words s };
+
+    #[tactic(auto, unfolding(crate::specs::HeldTimer::held_timer_words, crate::specs::Flags::flag_word))]
     #[inline(always)]
-    pub fn of(value: HeldTimerState) -> Self
-        ensures { result ≡ held_timer_words value }
-    {
-        let entry_time = value.entry_time;
+    fn from(value: HeldTimerState) -> Self {
         HeldTimerWords {
             threshold: value.threshold,
-            entry_time: SeenWords::of(entry_time),
-            prev_u: flag_word(value.prev_u),
-            passed: flag_word(value.passed),
+            entry_time: SeenWords::from(value.entry_time),
+            prev_u: u64::from(value.prev_u),
+            passed: u64::from(value.passed),
         }
     }
+}
 
-    #[tactic(auto, unfolding(crate::specs::HeldTimer::held_timer_of))]
+impl From<HeldTimerWords> for HeldTimerState {
+    ghost from_gives = { λ w s. s ≡ held_timer_of w };
+
+    #[tactic(auto, unfolding(crate::specs::HeldTimer::held_timer_of, crate::specs::Flags::word_flag))]
     #[inline(always)]
-    pub fn value(self) -> HeldTimerState
-        ensures { result ≡ held_timer_of self }
-    {
-        let entry_time = self.entry_time;
+    fn from(words: HeldTimerWords) -> Self {
         HeldTimerState {
-            threshold: self.threshold,
-            entry_time: entry_time.value(),
-            prev_u: word_flag(self.prev_u),
-            passed: word_flag(self.passed),
+            threshold: words.threshold,
+            entry_time: Option::from(words.entry_time),
+            prev_u: words.prev_u != 0,
+            passed: words.passed != 0,
         }
     }
 }

@@ -2,7 +2,6 @@
 ghost use Rattle.std.specs.Prelude.{◌≡◌};
 ghost use Rattle.block_words.specs.Hysteresis.{hysteresis_words, hysteresis_of};
 
-use crate::flags::{flag_word, word_flag};
 use reals::hysteresis::HysteresisState;
 
 #[repr(C)]
@@ -11,24 +10,26 @@ pub struct HysteresisWords {
     pub previous: u64,
 }
 
-impl HysteresisWords {
-    #[tactic(auto, unfolding(crate::specs::Hysteresis::hysteresis_words))]
+impl From<HysteresisState> for HysteresisWords {
+    ghost from_gives = { λ s w. w ≡ hysteresis_words s };
+
+    #[tactic(auto, unfolding(crate::specs::Hysteresis::hysteresis_words, crate::specs::Flags::flag_word))]
     #[inline(always)]
-    pub fn of(value: HysteresisState) -> Self
-        ensures { result ≡ hysteresis_words value }
-    {
+    fn from(value: HysteresisState) -> Self {
         HysteresisWords {
-            previous: flag_word(value.previous),
+            previous: u64::from(value.previous),
         }
     }
+}
 
-    #[tactic(auto, unfolding(crate::specs::Hysteresis::hysteresis_of))]
+impl From<HysteresisWords> for HysteresisState {
+    ghost from_gives = { λ w s. s ≡ hysteresis_of w };
+
+    #[tactic(auto, unfolding(crate::specs::Hysteresis::hysteresis_of, crate::specs::Flags::word_flag))]
     #[inline(always)]
-    pub fn value(self) -> HysteresisState
-        ensures { result ≡ hysteresis_of self }
-    {
+    fn from(words: HysteresisWords) -> Self {
         HysteresisState {
-            previous: word_flag(self.previous),
+            previous: words.previous != 0,
         }
     }
 }

@@ -14,32 +14,32 @@ pub struct IntegratorWords {
     pub count: usize,
 }
 
-impl IntegratorWords {
+impl From<Integrator> for IntegratorWords {
+    ghost from_gives = { λ s w. w ≡ integrator_words s };
+
     #[tactic(auto, unfolding(crate::specs::Integrator::integrator_words))]
     #[inline(always)]
-    pub fn of(value: Integrator) -> Self
-        ensures { result ≡ integrator_words value }
-    {
-        let prev_t = value.prev_t;
+    fn from(value: Integrator) -> Self {
         IntegratorWords {
             t_start: value.t_start,
-            prev_t: SeenWords::of(prev_t),
+            prev_t: SeenWords::from(value.prev_t),
             mu: value.mu,
             count: value.count,
         }
     }
+}
+
+impl From<IntegratorWords> for Integrator {
+    ghost from_gives = { λ w s. s ≡ integrator_of w };
 
     #[tactic(auto, unfolding(crate::specs::Integrator::integrator_of))]
     #[inline(always)]
-    pub fn value(self) -> Integrator
-        ensures { result ≡ integrator_of self }
-    {
-        let prev_t = self.prev_t;
+    fn from(words: IntegratorWords) -> Self {
         Integrator {
-            t_start: self.t_start,
-            prev_t: prev_t.value(),
-            mu: self.mu,
-            count: self.count,
+            t_start: words.t_start,
+            prev_t: Option::from(words.prev_t),
+            mu: words.mu,
+            count: words.count,
         }
     }
 }

@@ -2,7 +2,6 @@
 ghost use Rattle.std.specs.Prelude.{◌≡◌};
 ghost use Rattle.block_words.specs.Latch.{latch_words, latch_of};
 
-use crate::flags::{flag_word, word_flag};
 use logical::latch::LatchState;
 
 #[repr(C)]
@@ -12,26 +11,28 @@ pub struct LatchWords {
     pub prev_u: u64,
 }
 
-impl LatchWords {
-    #[tactic(auto, unfolding(crate::specs::Latch::latch_words))]
+impl From<LatchState> for LatchWords {
+    ghost from_gives = { λ s w. w ≡ latch_words s };
+
+    #[tactic(auto, unfolding(crate::specs::Latch::latch_words, crate::specs::Flags::flag_word))]
     #[inline(always)]
-    pub fn of(value: LatchState) -> Self
-        ensures { result ≡ latch_words value }
-    {
+    fn from(value: LatchState) -> Self {
         LatchWords {
-            held: flag_word(value.held),
-            prev_u: flag_word(value.prev_u),
+            held: u64::from(value.held),
+            prev_u: u64::from(value.prev_u),
         }
     }
+}
 
-    #[tactic(auto, unfolding(crate::specs::Latch::latch_of))]
+impl From<LatchWords> for LatchState {
+    ghost from_gives = { λ w s. s ≡ latch_of w };
+
+    #[tactic(auto, unfolding(crate::specs::Latch::latch_of, crate::specs::Flags::word_flag))]
     #[inline(always)]
-    pub fn value(self) -> LatchState
-        ensures { result ≡ latch_of self }
-    {
+    fn from(words: LatchWords) -> Self {
         LatchState {
-            held: word_flag(self.held),
-            prev_u: word_flag(self.prev_u),
+            held: words.held != 0,
+            prev_u: words.prev_u != 0,
         }
     }
 }

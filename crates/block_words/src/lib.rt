@@ -1,7 +1,6 @@
 // What C holds of the blocks that states are made of: the fields of each type in their order, as words of 8 bytes that a caller in C can hold. Written by tools/words.
 #![tactic(auto)]
 
-pub mod flags; // a flag
 pub mod edge;
 pub mod held_timer;
 pub mod hysteresis;

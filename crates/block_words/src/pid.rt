@@ -12,28 +12,28 @@ pub struct PidWords {
     pub prev_t: SeenWords,
 }
 
-impl PidWords {
+impl From<PidState> for PidWords {
+    ghost from_gives = { λ s w. w ≡ pid_words s };
+
     #[tactic(auto, unfolding(crate::specs::Pid::pid_words))]
     #[inline(always)]
-    pub fn of(value: PidState) -> Self
-        ensures { result ≡ pid_words value }
-    {
-        let prev_t = value.prev_t;
+    fn from(value: PidState) -> Self {
         PidWords {
             integral: value.integral,
-            prev_t: SeenWords::of(prev_t),
+            prev_t: SeenWords::from(value.prev_t),
         }
     }
+}
+
+impl From<PidWords> for PidState {
+    ghost from_gives = { λ w s. s ≡ pid_of w };
 
     #[tactic(auto, unfolding(crate::specs::Pid::pid_of))]
     #[inline(always)]
-    pub fn value(self) -> PidState
-        ensures { result ≡ pid_of self }
-    {
-        let prev_t = self.prev_t;
+    fn from(words: PidWords) -> Self {
         PidState {
-            integral: self.integral,
-            prev_t: prev_t.value(),
+            integral: words.integral,
+            prev_t: Option::from(words.prev_t),
         }
     }
 }

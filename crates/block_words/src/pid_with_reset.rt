@@ -2,7 +2,6 @@
 ghost use Rattle.std.specs.Prelude.{◌≡◌};
 ghost use Rattle.block_words.specs.PidWithReset.{pid_with_reset_words, pid_with_reset_of};
 
-use crate::flags::{flag_word, word_flag};
 use crate::seen::SeenWords;
 use reals::pid_with_reset::PidWithResetState;
 
@@ -14,30 +13,30 @@ pub struct PidWithResetWords {
     pub previous_trigger: u64,
 }
 
-impl PidWithResetWords {
-    #[tactic(auto, unfolding(crate::specs::PidWithReset::pid_with_reset_words))]
+impl From<PidWithResetState> for PidWithResetWords {
+    ghost from_gives = { λ s w. w ≡ pid_with_reset_words s };
+
+    #[tactic(auto, unfolding(crate::specs::PidWithReset::pid_with_reset_words, crate::specs::Flags::flag_word))]
     #[inline(always)]
-    pub fn of(value: PidWithResetState) -> Self
-        ensures { result ≡ pid_with_reset_words value }
-    {
-        let prev_t = value.prev_t;
+    fn from(value: PidWithResetState) -> Self {
         PidWithResetWords {
             integral: value.integral,
-            prev_t: SeenWords::of(prev_t),
-            previous_trigger: flag_word(value.previous_trigger),
+            prev_t: SeenWords::from(value.prev_t),
+            previous_trigger: u64::from(value.previous_trigger),
         }
     }
+}
 
-    #[tactic(auto, unfolding(crate::specs::PidWithReset::pid_with_reset_of))]
+impl From<PidWithResetWords> for PidWithResetState {
+    ghost from_gives = { λ w s. s ≡ pid_with_reset_of w };
+
+    #[tactic(auto, unfolding(crate::specs::PidWithReset::pid_with_reset_of, crate::specs::Flags::word_flag))]
     #[inline(always)]
-    pub fn value(self) -> PidWithResetState
-        ensures { result ≡ pid_with_reset_of self }
-    {
-        let prev_t = self.prev_t;
+    fn from(words: PidWithResetWords) -> Self {
         PidWithResetState {
-            integral: self.integral,
-            prev_t: prev_t.value(),
-            previous_trigger: word_flag(self.previous_trigger),
+            integral: words.integral,
+            prev_t: Option::from(words.prev_t),
+            previous_trigger: words.previous_trigger != 0,
         }
     }
 }

@@ -2,7 +2,6 @@
 ghost use Rattle.std.specs.Prelude.{◌≡◌};
 ghost use Rattle.block_words.specs.Pre.{pre_words, pre_of};
 
-use crate::flags::{flag_word, word_flag};
 use logical::pre::PreState;
 
 #[repr(C)]
@@ -11,24 +10,26 @@ pub struct PreWords {
     pub previous: u64,
 }
 
-impl PreWords {
-    #[tactic(auto, unfolding(crate::specs::Pre::pre_words))]
+impl From<PreState> for PreWords {
+    ghost from_gives = { λ s w. w ≡ pre_words s };
+
+    #[tactic(auto, unfolding(crate::specs::Pre::pre_words, crate::specs::Flags::flag_word))]
     #[inline(always)]
-    pub fn of(value: PreState) -> Self
-        ensures { result ≡ pre_words value }
-    {
+    fn from(value: PreState) -> Self {
         PreWords {
-            previous: flag_word(value.previous),
+            previous: u64::from(value.previous),
         }
     }
+}
 
-    #[tactic(auto, unfolding(crate::specs::Pre::pre_of))]
+impl From<PreWords> for PreState {
+    ghost from_gives = { λ w s. s ≡ pre_of w };
+
+    #[tactic(auto, unfolding(crate::specs::Pre::pre_of, crate::specs::Flags::word_flag))]
     #[inline(always)]
-    pub fn value(self) -> PreState
-        ensures { result ≡ pre_of self }
-    {
+    fn from(words: PreWords) -> Self {
         PreState {
-            previous: word_flag(self.previous),
+            previous: words.previous != 0,
         }
     }
 }

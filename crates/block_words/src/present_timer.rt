@@ -2,7 +2,6 @@
 ghost use Rattle.std.specs.Prelude.{◌≡◌};
 ghost use Rattle.block_words.specs.PresentTimer.{present_timer_words, present_timer_of};
 
-use crate::flags::{flag_word, word_flag};
 use crate::seen::SeenWords;
 use logical::present_timer::PresentTimerState;
 
@@ -14,30 +13,30 @@ pub struct PresentTimerWords {
     pub prev_u: u64,
 }
 
-impl PresentTimerWords {
-    #[tactic(auto, unfolding(crate::specs::PresentTimer::present_timer_words))]
+impl From<PresentTimerState> for PresentTimerWords {
+    ghost from_gives = { λ s w. w ≡ present_timer_words s };
+
+    #[tactic(auto, unfolding(crate::specs::PresentTimer::present_timer_words, crate::specs::Flags::flag_word))]
     #[inline(always)]
-    pub fn of(value: PresentTimerState) -> Self
-        ensures { result ≡ present_timer_words value }
-    {
-        let entry_time = value.entry_time;
+    fn from(value: PresentTimerState) -> Self {
         PresentTimerWords {
             threshold: value.threshold,
-            entry_time: SeenWords::of(entry_time),
-            prev_u: flag_word(value.prev_u),
+            entry_time: SeenWords::from(value.entry_time),
+            prev_u: u64::from(value.prev_u),
         }
     }
+}
 
-    #[tactic(auto, unfolding(crate::specs::PresentTimer::present_timer_of))]
+impl From<PresentTimerWords> for PresentTimerState {
+    ghost from_gives = { λ w s. s ≡ present_timer_of w };
+
+    #[tactic(auto, unfolding(crate::specs::PresentTimer::present_timer_of, crate::specs::Flags::word_flag))]
     #[inline(always)]
-    pub fn value(self) -> PresentTimerState
-        ensures { result ≡ present_timer_of self }
-    {
-        let entry_time = self.entry_time;
+    fn from(words: PresentTimerWords) -> Self {
         PresentTimerState {
-            threshold: self.threshold,
-            entry_time: entry_time.value(),
-            prev_u: word_flag(self.prev_u),
+            threshold: words.threshold,
+            entry_time: Option::from(words.entry_time),
+            prev_u: words.prev_u != 0,
         }
     }
 }

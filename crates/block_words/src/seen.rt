@@ -9,13 +9,13 @@ pub struct SeenWords {
     pub at: f64,
 }
 
-impl SeenWords {
+impl From<Option<f64>> for SeenWords {
+    ghost from_gives = { λ s w. w ≡ seen_words s };
+
     // The number of the variant, and what it holds; 0 for what the others would.
     #[tactic(auto, unfolding(crate::specs::Seen::seen_words))]
     #[inline(always)]
-    pub fn of(value: Option<f64>) -> Self
-        ensures { result ≡ seen_words value }
-    {
+    fn from(value: Option<f64>) -> Self {
         match value {
             None => SeenWords {
                 variant: 0,
@@ -24,17 +24,18 @@ impl SeenWords {
             Some(at) => SeenWords { variant: 1, at },
         }
     }
+}
+
+impl From<SeenWords> for Option<f64> {
+    ghost from_gives = { λ w s. s ≡ seen_of w };
 
     // A number that no variant has is read as `Some`.
     #[tactic(auto, unfolding(crate::specs::Seen::seen_of))]
     #[inline(always)]
-    pub fn value(self) -> Option<f64>
-        ensures { result ≡ seen_of self }
-    {
-        let variant = self.variant;
-        if variant == 0 {
-            return None;
+    fn from(words: SeenWords) -> Self {
+        match words.variant {
+            0 => None,
+            _ => Some(words.at),
         }
-        Some(self.at)
     }
 }

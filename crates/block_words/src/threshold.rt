@@ -2,9 +2,8 @@
 ghost use Rattle.std.specs.Prelude.{◌≡◌, map};
 ghost use Rattle.block_words.specs.Threshold.{threshold_words, threshold_of};
 
-use crate::flags::{flag_word, word_flag};
 use crate::threshold_mode::ThresholdModeWords;
-use reals::threshold::ThresholdState;
+use reals::threshold::{ThresholdMode, ThresholdState};
 
 #[repr(C)]
 #[derive(Clone, Copy)]
@@ -15,57 +14,46 @@ pub struct ThresholdWords {
     pub mode: ThresholdModeWords,
 }
 
-impl ThresholdWords {
-    #[tactic(auto, unfolding(crate::specs::Threshold::threshold_words))]
+impl From<ThresholdState> for ThresholdWords {
+    ghost from_gives = { λ s w. w ≡ threshold_words s };
+
+    #[tactic(auto, unfolding(crate::specs::Threshold::threshold_words, crate::specs::Flags::flag_word))]
     #[inline(always)]
-    pub fn of(value: ThresholdState) -> Self
-        ensures { result ≡ threshold_words value }
-    {
-        let mode = value.mode;
+    fn from(value: ThresholdState) -> Self {
         ThresholdWords {
             threshold: value.threshold,
             hysteresis: value.hysteresis,
-            previous: flag_word(value.previous),
-            mode: ThresholdModeWords::of(mode),
-        }
-    }
-
-    #[tactic(auto, unfolding(crate::specs::Threshold::threshold_of))]
-    #[inline(always)]
-    pub fn value(self) -> ThresholdState
-        ensures { result ≡ threshold_of self }
-    {
-        let mode = self.mode;
-        ThresholdState {
-            threshold: self.threshold,
-            hysteresis: self.hysteresis,
-            previous: word_flag(self.previous),
-            mode: mode.value(),
+            previous: u64::from(value.previous),
+            mode: ThresholdModeWords::from(value.mode),
         }
     }
 }
 
+impl From<ThresholdWords> for ThresholdState {
+    ghost from_gives = { λ w s. s ≡ threshold_of w };
+
+    #[tactic(auto, unfolding(crate::specs::Threshold::threshold_of, crate::specs::Flags::word_flag))]
+    #[inline(always)]
+    fn from(words: ThresholdWords) -> Self {
+        ThresholdState {
+            threshold: words.threshold,
+            hysteresis: words.hysteresis,
+            previous: words.previous != 0,
+            mode: ThresholdMode::from(words.mode),
+        }
+    }
+}
+
+#[inline(always)]
 pub fn threshold_words_of_four(values: [ThresholdState; 4]) -> [ThresholdWords; 4]
     ensures { result ≡ map threshold_words values }
 {
-    let first = values[0];
-    let second = values[1];
-    let third = values[2];
-    let fourth = values[3];
-    [
-        ThresholdWords::of(first),
-        ThresholdWords::of(second),
-        ThresholdWords::of(third),
-        ThresholdWords::of(fourth),
-    ]
+    values.map(ThresholdWords::from)
 }
 
+#[inline(always)]
 pub fn threshold_values_of_four(words: [ThresholdWords; 4]) -> [ThresholdState; 4]
     ensures { result ≡ map threshold_of words }
 {
-    let first = words[0];
-    let second = words[1];
-    let third = words[2];
-    let fourth = words[3];
-    [first.value(), second.value(), third.value(), fourth.value()]
+    words.map(ThresholdState::from)
 }

@@ -10,29 +10,30 @@ pub struct ThresholdModeWords {
     pub variant: u64,
 }
 
-impl ThresholdModeWords {
+impl From<ThresholdMode> for ThresholdModeWords {
+    ghost from_gives = { λ s w. w ≡ threshold_mode_words s };
+
     // The number of the variant, and what it holds; 0 for what the others would.
     #[tactic(auto, unfolding(crate::specs::ThresholdMode::threshold_mode_words))]
     #[inline(always)]
-    pub fn of(value: ThresholdMode) -> Self
-        ensures { result ≡ threshold_mode_words value }
-    {
+    fn from(value: ThresholdMode) -> Self {
         match value {
             ThresholdMode::Greater => ThresholdModeWords { variant: 0 },
             ThresholdMode::Less => ThresholdModeWords { variant: 1 },
         }
     }
+}
+
+impl From<ThresholdModeWords> for ThresholdMode {
+    ghost from_gives = { λ w s. s ≡ threshold_mode_of w };
 
     // A number that no variant has is read as `Less`.
     #[tactic(auto, unfolding(crate::specs::ThresholdMode::threshold_mode_of))]
     #[inline(always)]
-    pub fn value(self) -> ThresholdMode
-        ensures { result ≡ threshold_mode_of self }
-    {
-        let variant = self.variant;
-        if variant == 0 {
-            return ThresholdMode::Greater;
+    fn from(words: ThresholdModeWords) -> Self {
+        match words.variant {
+            0 => ThresholdMode::Greater,
+            _ => ThresholdMode::Less,
         }
-        ThresholdMode::Less
     }
 }

@@ -1,37 +1,25 @@
 // `TimerOutput` of logical as words. Written by tools/words.
 ghost use Rattle.std.specs.Prelude.{◌≡◌};
-ghost use Rattle.block_words.specs.TimerOutput.{timer_output_words, timer_output_zero};
+ghost use Rattle.block_words.specs.TimerOutput.{timer_output_words};
 
-use crate::flags::flag_word;
 use logical::timer::TimerOutput;
 
 #[repr(C)]
-#[derive(Clone, Copy)]
+#[derive(Clone, Copy, Default)]
 pub struct TimerOutputWords {
     pub passed: u64,
     pub elapsed: f64,
 }
 
-impl TimerOutputWords {
-    #[tactic(auto, unfolding(crate::specs::TimerOutput::timer_output_words))]
-    #[inline(always)]
-    pub fn of(value: TimerOutput) -> Self
-        ensures { result ≡ timer_output_words value }
-    {
-        TimerOutputWords {
-            passed: flag_word(value.passed),
-            elapsed: value.elapsed,
-        }
-    }
+impl From<TimerOutput> for TimerOutputWords {
+    ghost from_gives = { λ s w. w ≡ timer_output_words s };
 
-    #[tactic(auto, unfolding(crate::specs::TimerOutput::timer_output_zero))]
+    #[tactic(auto, unfolding(crate::specs::TimerOutput::timer_output_words, crate::specs::Flags::flag_word))]
     #[inline(always)]
-    pub fn zero() -> Self
-        ensures { result ≡ timer_output_zero }
-    {
+    fn from(value: TimerOutput) -> Self {
         TimerOutputWords {
-            passed: 0,
-            elapsed: 0.0,
+            passed: u64::from(value.passed),
+            elapsed: value.elapsed,
         }
     }
 }

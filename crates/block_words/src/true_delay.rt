@@ -2,7 +2,6 @@
 ghost use Rattle.std.specs.Prelude.{◌≡◌};
 ghost use Rattle.block_words.specs.TrueDelay.{true_delay_words, true_delay_of};
 
-use crate::flags::{flag_word, word_flag};
 use crate::seen::SeenWords;
 use logical::true_delay::TrueDelayState;
 
@@ -15,32 +14,32 @@ pub struct TrueDelayWords {
     pub timer: f64,
 }
 
-impl TrueDelayWords {
-    #[tactic(auto, unfolding(crate::specs::TrueDelay::true_delay_words))]
+impl From<TrueDelayState> for TrueDelayWords {
+    ghost from_gives = { λ s w. w ≡ true_delay_words s };
+
+    #[tactic(auto, unfolding(crate::specs::TrueDelay::true_delay_words, crate::specs::Flags::flag_word))]
     #[inline(always)]
-    pub fn of(value: TrueDelayState) -> Self
-        ensures { result ≡ true_delay_words value }
-    {
-        let previous_time = value.previous_time;
+    fn from(value: TrueDelayState) -> Self {
         TrueDelayWords {
-            previous_time: SeenWords::of(previous_time),
-            previous_input: flag_word(value.previous_input),
-            held_output: flag_word(value.held_output),
+            previous_time: SeenWords::from(value.previous_time),
+            previous_input: u64::from(value.previous_input),
+            held_output: u64::from(value.held_output),
             timer: value.timer,
         }
     }
+}
 
-    #[tactic(auto, unfolding(crate::specs::TrueDelay::true_delay_of))]
+impl From<TrueDelayWords> for TrueDelayState {
+    ghost from_gives = { λ w s. s ≡ true_delay_of w };
+
+    #[tactic(auto, unfolding(crate::specs::TrueDelay::true_delay_of, crate::specs::Flags::word_flag))]
     #[inline(always)]
-    pub fn value(self) -> TrueDelayState
-        ensures { result ≡ true_delay_of self }
-    {
-        let previous_time = self.previous_time;
+    fn from(words: TrueDelayWords) -> Self {
         TrueDelayState {
-            previous_time: previous_time.value(),
-            previous_input: word_flag(self.previous_input),
-            held_output: word_flag(self.held_output),
-            timer: self.timer,
+            previous_time: Option::from(words.previous_time),
+            previous_input: words.previous_input != 0,
+            held_output: words.held_output != 0,
+            timer: words.timer,
         }
     }
 }

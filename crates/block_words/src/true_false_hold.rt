@@ -2,7 +2,6 @@
 ghost use Rattle.std.specs.Prelude.{◌≡◌};
 ghost use Rattle.block_words.specs.TrueFalseHold.{true_false_hold_words, true_false_hold_of};
 
-use crate::flags::{flag_word, word_flag};
 use crate::seen::SeenWords;
 use logical::true_false_hold::TrueFalseHoldState;
 
@@ -16,34 +15,34 @@ pub struct TrueFalseHoldWords {
     pub false_hold_duration: f64,
 }
 
-impl TrueFalseHoldWords {
-    #[tactic(auto, unfolding(crate::specs::TrueFalseHold::true_false_hold_words))]
+impl From<TrueFalseHoldState> for TrueFalseHoldWords {
+    ghost from_gives = { λ s w. w ≡ true_false_hold_words s };
+
+    #[tactic(auto, unfolding(crate::specs::TrueFalseHold::true_false_hold_words, crate::specs::Flags::flag_word))]
     #[inline(always)]
-    pub fn of(value: TrueFalseHoldState) -> Self
-        ensures { result ≡ true_false_hold_words value }
-    {
-        let prev_t = value.prev_t;
+    fn from(value: TrueFalseHoldState) -> Self {
         TrueFalseHoldWords {
-            held: flag_word(value.held),
+            held: u64::from(value.held),
             timer: value.timer,
-            prev_t: SeenWords::of(prev_t),
+            prev_t: SeenWords::from(value.prev_t),
             true_hold_duration: value.true_hold_duration,
             false_hold_duration: value.false_hold_duration,
         }
     }
+}
 
-    #[tactic(auto, unfolding(crate::specs::TrueFalseHold::true_false_hold_of))]
+impl From<TrueFalseHoldWords> for TrueFalseHoldState {
+    ghost from_gives = { λ w s. s ≡ true_false_hold_of w };
+
+    #[tactic(auto, unfolding(crate::specs::TrueFalseHold::true_false_hold_of, crate::specs::Flags::word_flag))]
     #[inline(always)]
-    pub fn value(self) -> TrueFalseHoldState
-        ensures { result ≡ true_false_hold_of self }
-    {
-        let prev_t = self.prev_t;
+    fn from(words: TrueFalseHoldWords) -> Self {
         TrueFalseHoldState {
-            held: word_flag(self.held),
-            timer: self.timer,
-            prev_t: prev_t.value(),
-            true_hold_duration: self.true_hold_duration,
-            false_hold_duration: self.false_hold_duration,
+            held: words.held != 0,
+            timer: words.timer,
+            prev_t: Option::from(words.prev_t),
+            true_hold_duration: words.true_hold_duration,
+            false_hold_duration: words.false_hold_duration,
         }
     }
 }

@@ -1,11 +1,11 @@
 // `DamperLimits` of economizer_controller as words. Written by tools/words.
 ghost use Rattle.std.specs.Prelude.{◌≡◌};
-ghost use Rattle.econ_words.specs.DamperLimits.{damper_limits_words, damper_limits_zero};
+ghost use Rattle.econ_words.specs.DamperLimits.{damper_limits_words};
 
 use economizer_controller::types::DamperLimits;
 
 #[repr(C)]
-#[derive(Clone, Copy)]
+#[derive(Clone, Copy, Default)]
 pub struct DamperLimitsWords {
     pub outdoor_damper_min_limit: f64,
     pub outdoor_damper_max_limit: f64,
@@ -14,32 +14,18 @@ pub struct DamperLimitsWords {
     pub return_damper_physical_max_limit: f64,
 }
 
-impl DamperLimitsWords {
+impl From<DamperLimits> for DamperLimitsWords {
+    ghost from_gives = { λ s w. w ≡ damper_limits_words s };
+
     #[tactic(auto, unfolding(crate::specs::DamperLimits::damper_limits_words))]
     #[inline(always)]
-    pub fn of(value: DamperLimits) -> Self
-        ensures { result ≡ damper_limits_words value }
-    {
+    fn from(value: DamperLimits) -> Self {
         DamperLimitsWords {
             outdoor_damper_min_limit: value.outdoor_damper_min_limit,
             outdoor_damper_max_limit: value.outdoor_damper_max_limit,
             return_damper_min_limit: value.return_damper_min_limit,
             return_damper_max_limit: value.return_damper_max_limit,
             return_damper_physical_max_limit: value.return_damper_physical_max_limit,
-        }
-    }
-
-    #[tactic(auto, unfolding(crate::specs::DamperLimits::damper_limits_zero))]
-    #[inline(always)]
-    pub fn zero() -> Self
-        ensures { result ≡ damper_limits_zero }
-    {
-        DamperLimitsWords {
-            outdoor_damper_min_limit: 0.0,
-            outdoor_damper_max_limit: 0.0,
-            return_damper_min_limit: 0.0,
-            return_damper_max_limit: 0.0,
-            return_damper_physical_max_limit: 0.0,
         }
     }
 }

@@ -5,7 +5,9 @@ ghost use Rattle.econ_words.specs.Economizer.{economizer_words, economizer_of};
 use crate::enable::EnableWords;
 use block_words::pid_with_reset::PidWithResetWords;
 use block_words::seen::SeenWords;
+use economizer_controller::enable::EnableState;
 use economizer_controller::types::EconomizerState;
+use reals::pid_with_reset::PidWithResetState;
 
 #[repr(C)]
 #[derive(Clone, Copy)]
@@ -15,34 +17,30 @@ pub struct EconomizerWords {
     pub enable: EnableWords,
 }
 
-impl EconomizerWords {
+impl From<EconomizerState> for EconomizerWords {
+    ghost from_gives = { λ s w. w ≡ economizer_words s };
+
     #[tactic(auto, unfolding(crate::specs::Economizer::economizer_words))]
     #[inline(always)]
-    pub fn of(value: EconomizerState) -> Self
-        ensures { result ≡ economizer_words value }
-    {
-        let last = value.last;
-        let minimum_outdoor_air_loop = value.minimum_outdoor_air_loop;
-        let enable = value.enable;
+    fn from(value: EconomizerState) -> Self {
         EconomizerWords {
-            last: SeenWords::of(last),
-            minimum_outdoor_air_loop: PidWithResetWords::of(minimum_outdoor_air_loop),
-            enable: EnableWords::of(enable),
+            last: SeenWords::from(value.last),
+            minimum_outdoor_air_loop: PidWithResetWords::from(value.minimum_outdoor_air_loop),
+            enable: EnableWords::from(value.enable),
         }
     }
+}
+
+impl From<EconomizerWords> for EconomizerState {
+    ghost from_gives = { λ w s. s ≡ economizer_of w };
 
     #[tactic(auto, unfolding(crate::specs::Economizer::economizer_of))]
     #[inline(always)]
-    pub fn value(self) -> EconomizerState
-        ensures { result ≡ economizer_of self }
-    {
-        let last = self.last;
-        let minimum_outdoor_air_loop = self.minimum_outdoor_air_loop;
-        let enable = self.enable;
+    fn from(words: EconomizerWords) -> Self {
         EconomizerState {
-            last: last.value(),
-            minimum_outdoor_air_loop: minimum_outdoor_air_loop.value(),
-            enable: enable.value(),
+            last: Option::from(words.last),
+            minimum_outdoor_air_loop: PidWithResetState::from(words.minimum_outdoor_air_loop),
+            enable: EnableState::from(words.enable),
         }
     }
 }

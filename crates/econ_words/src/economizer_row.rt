@@ -2,7 +2,6 @@
 ghost use Rattle.std.specs.Prelude.{◌≡◌};
 ghost use Rattle.econ_words.specs.EconomizerRow.{economizer_row_of};
 
-use block_words::flags::word_flag;
 use economizer_controller::types::EconomizerRow;
 
 #[repr(C)]
@@ -18,21 +17,21 @@ pub struct EconomizerRowWords {
     pub freeze_protection_stage: i64,
 }
 
-impl EconomizerRowWords {
-    #[tactic(auto, unfolding(crate::specs::EconomizerRow::economizer_row_of))]
+impl From<EconomizerRowWords> for EconomizerRow {
+    ghost from_gives = { λ w s. s ≡ economizer_row_of w };
+
+    #[tactic(auto, unfolding(crate::specs::EconomizerRow::economizer_row_of, block_words::specs::Flags::word_flag))]
     #[inline(always)]
-    pub fn value(self) -> EconomizerRow
-        ensures { result ≡ economizer_row_of self }
-    {
+    fn from(words: EconomizerRowWords) -> Self {
         EconomizerRow {
-            time: self.time,
-            outdoor_airflow_normalized: self.outdoor_airflow_normalized,
-            minimum_outdoor_airflow_setpoint_normalized: self.minimum_outdoor_airflow_setpoint_normalized,
-            supply_temperature_signal: self.supply_temperature_signal,
-            outdoor_air_temperature: self.outdoor_air_temperature,
-            supply_fan_status: word_flag(self.supply_fan_status),
-            operation_mode: self.operation_mode,
-            freeze_protection_stage: self.freeze_protection_stage,
+            time: words.time,
+            outdoor_airflow_normalized: words.outdoor_airflow_normalized,
+            minimum_outdoor_airflow_setpoint_normalized: words.minimum_outdoor_airflow_setpoint_normalized,
+            supply_temperature_signal: words.supply_temperature_signal,
+            outdoor_air_temperature: words.outdoor_air_temperature,
+            supply_fan_status: words.supply_fan_status != 0,
+            operation_mode: words.operation_mode,
+            freeze_protection_stage: words.freeze_protection_stage,
         }
     }
 }

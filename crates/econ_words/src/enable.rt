@@ -6,6 +6,9 @@ use block_words::hysteresis::HysteresisWords;
 use block_words::true_delay::TrueDelayWords;
 use block_words::true_false_hold::TrueFalseHoldWords;
 use economizer_controller::enable::EnableState;
+use logical::true_delay::TrueDelayState;
+use logical::true_false_hold::TrueFalseHoldState;
+use reals::hysteresis::HysteresisState;
 
 #[repr(C)]
 #[derive(Clone, Copy)]
@@ -16,38 +19,32 @@ pub struct EnableWords {
     pub return_delay: TrueDelayWords,
 }
 
-impl EnableWords {
+impl From<EnableState> for EnableWords {
+    ghost from_gives = { λ s w. w ≡ enable_words s };
+
     #[tactic(auto, unfolding(crate::specs::Enable::enable_words))]
     #[inline(always)]
-    pub fn of(value: EnableState) -> Self
-        ensures { result ≡ enable_words value }
-    {
-        let hysteresis = value.hysteresis;
-        let hold = value.hold;
-        let outdoor_delay = value.outdoor_delay;
-        let return_delay = value.return_delay;
+    fn from(value: EnableState) -> Self {
         EnableWords {
-            hysteresis: HysteresisWords::of(hysteresis),
-            hold: TrueFalseHoldWords::of(hold),
-            outdoor_delay: TrueDelayWords::of(outdoor_delay),
-            return_delay: TrueDelayWords::of(return_delay),
+            hysteresis: HysteresisWords::from(value.hysteresis),
+            hold: TrueFalseHoldWords::from(value.hold),
+            outdoor_delay: TrueDelayWords::from(value.outdoor_delay),
+            return_delay: TrueDelayWords::from(value.return_delay),
         }
     }
+}
+
+impl From<EnableWords> for EnableState {
+    ghost from_gives = { λ w s. s ≡ enable_of w };
 
     #[tactic(auto, unfolding(crate::specs::Enable::enable_of))]
     #[inline(always)]
-    pub fn value(self) -> EnableState
-        ensures { result ≡ enable_of self }
-    {
-        let hysteresis = self.hysteresis;
-        let hold = self.hold;
-        let outdoor_delay = self.outdoor_delay;
-        let return_delay = self.return_delay;
+    fn from(words: EnableWords) -> Self {
         EnableState {
-            hysteresis: hysteresis.value(),
-            hold: hold.value(),
-            outdoor_delay: outdoor_delay.value(),
-            return_delay: return_delay.value(),
+            hysteresis: HysteresisState::from(words.hysteresis),
+            hold: TrueFalseHoldState::from(words.hold),
+            outdoor_delay: TrueDelayState::from(words.outdoor_delay),
+            return_delay: TrueDelayState::from(words.return_delay),
         }
     }
 }

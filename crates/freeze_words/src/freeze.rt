@@ -10,6 +10,12 @@ use block_words::seen::SeenWords;
 use block_words::threshold::ThresholdWords;
 use block_words::true_false_hold::TrueFalseHoldWords;
 use freeze_protection::types::FreezeState;
+use logical::edge::EdgeState;
+use logical::held_timer::HeldTimerState;
+use logical::latch::LatchState;
+use logical::true_false_hold::TrueFalseHoldState;
+use reals::pid::PidState;
+use reals::threshold::ThresholdState;
 
 #[repr(C)]
 #[derive(Clone, Copy)]
@@ -35,98 +41,62 @@ pub struct FreezeWords {
     pub end_sta_two: EdgeWords,
 }
 
-impl FreezeWords {
+impl From<FreezeState> for FreezeWords {
+    ghost from_gives = { λ s w. w ≡ freeze_words s };
+
     #[tactic(auto, unfolding(crate::specs::Freeze::freeze_words))]
     #[inline(always)]
-    pub fn of(value: FreezeState) -> Self
-        ensures { result ≡ freeze_words value }
-    {
-        let last = value.last;
-        let les_thr = value.les_thr;
-        let tim = value.tim;
-        let hea_coil_stage_1 = value.hea_coil_stage_1;
-        let gre_thr = value.gre_thr;
-        let lat = value.lat;
-        let tim1 = value.tim1;
-        let end_sta_one = value.end_sta_one;
-        let les_thr1 = value.les_thr1;
-        let tim2 = value.tim2;
-        let hol_sta2 = value.hol_sta2;
-        let tim3 = value.tim3;
-        let les_thr2 = value.les_thr2;
-        let tim4 = value.tim4;
-        let lat1 = value.lat1;
-        let hea_coil_stage_3 = value.hea_coil_stage_3;
-        let tim5 = value.tim5;
-        let lat2 = value.lat2;
-        let end_sta_two = value.end_sta_two;
+    fn from(value: FreezeState) -> Self {
         FreezeWords {
-            last: SeenWords::of(last),
-            les_thr: ThresholdWords::of(les_thr),
-            tim: HeldTimerWords::of(tim),
-            hea_coil_stage_1: PidWords::of(hea_coil_stage_1),
-            gre_thr: ThresholdWords::of(gre_thr),
-            lat: LatchWords::of(lat),
-            tim1: HeldTimerWords::of(tim1),
-            end_sta_one: EdgeWords::of(end_sta_one),
-            les_thr1: ThresholdWords::of(les_thr1),
-            tim2: HeldTimerWords::of(tim2),
-            hol_sta2: TrueFalseHoldWords::of(hol_sta2),
-            tim3: HeldTimerWords::of(tim3),
-            les_thr2: ThresholdWords::of(les_thr2),
-            tim4: HeldTimerWords::of(tim4),
-            lat1: LatchWords::of(lat1),
-            hea_coil_stage_3: PidWords::of(hea_coil_stage_3),
-            tim5: HeldTimerWords::of(tim5),
-            lat2: LatchWords::of(lat2),
-            end_sta_two: EdgeWords::of(end_sta_two),
+            last: SeenWords::from(value.last),
+            les_thr: ThresholdWords::from(value.les_thr),
+            tim: HeldTimerWords::from(value.tim),
+            hea_coil_stage_1: PidWords::from(value.hea_coil_stage_1),
+            gre_thr: ThresholdWords::from(value.gre_thr),
+            lat: LatchWords::from(value.lat),
+            tim1: HeldTimerWords::from(value.tim1),
+            end_sta_one: EdgeWords::from(value.end_sta_one),
+            les_thr1: ThresholdWords::from(value.les_thr1),
+            tim2: HeldTimerWords::from(value.tim2),
+            hol_sta2: TrueFalseHoldWords::from(value.hol_sta2),
+            tim3: HeldTimerWords::from(value.tim3),
+            les_thr2: ThresholdWords::from(value.les_thr2),
+            tim4: HeldTimerWords::from(value.tim4),
+            lat1: LatchWords::from(value.lat1),
+            hea_coil_stage_3: PidWords::from(value.hea_coil_stage_3),
+            tim5: HeldTimerWords::from(value.tim5),
+            lat2: LatchWords::from(value.lat2),
+            end_sta_two: EdgeWords::from(value.end_sta_two),
         }
     }
+}
+
+impl From<FreezeWords> for FreezeState {
+    ghost from_gives = { λ w s. s ≡ freeze_of w };
 
     #[tactic(auto, unfolding(crate::specs::Freeze::freeze_of))]
     #[inline(always)]
-    pub fn value(self) -> FreezeState
-        ensures { result ≡ freeze_of self }
-    {
-        let last = self.last;
-        let les_thr = self.les_thr;
-        let tim = self.tim;
-        let hea_coil_stage_1 = self.hea_coil_stage_1;
-        let gre_thr = self.gre_thr;
-        let lat = self.lat;
-        let tim1 = self.tim1;
-        let end_sta_one = self.end_sta_one;
-        let les_thr1 = self.les_thr1;
-        let tim2 = self.tim2;
-        let hol_sta2 = self.hol_sta2;
-        let tim3 = self.tim3;
-        let les_thr2 = self.les_thr2;
-        let tim4 = self.tim4;
-        let lat1 = self.lat1;
-        let hea_coil_stage_3 = self.hea_coil_stage_3;
-        let tim5 = self.tim5;
-        let lat2 = self.lat2;
-        let end_sta_two = self.end_sta_two;
+    fn from(words: FreezeWords) -> Self {
         FreezeState {
-            last: last.value(),
-            les_thr: les_thr.value(),
-            tim: tim.value(),
-            hea_coil_stage_1: hea_coil_stage_1.value(),
-            gre_thr: gre_thr.value(),
-            lat: lat.value(),
-            tim1: tim1.value(),
-            end_sta_one: end_sta_one.value(),
-            les_thr1: les_thr1.value(),
-            tim2: tim2.value(),
-            hol_sta2: hol_sta2.value(),
-            tim3: tim3.value(),
-            les_thr2: les_thr2.value(),
-            tim4: tim4.value(),
-            lat1: lat1.value(),
-            hea_coil_stage_3: hea_coil_stage_3.value(),
-            tim5: tim5.value(),
-            lat2: lat2.value(),
-            end_sta_two: end_sta_two.value(),
+            last: Option::from(words.last),
+            les_thr: ThresholdState::from(words.les_thr),
+            tim: HeldTimerState::from(words.tim),
+            hea_coil_stage_1: PidState::from(words.hea_coil_stage_1),
+            gre_thr: ThresholdState::from(words.gre_thr),
+            lat: LatchState::from(words.lat),
+            tim1: HeldTimerState::from(words.tim1),
+            end_sta_one: EdgeState::from(words.end_sta_one),
+            les_thr1: ThresholdState::from(words.les_thr1),
+            tim2: HeldTimerState::from(words.tim2),
+            hol_sta2: TrueFalseHoldState::from(words.hol_sta2),
+            tim3: HeldTimerState::from(words.tim3),
+            les_thr2: ThresholdState::from(words.les_thr2),
+            tim4: HeldTimerState::from(words.tim4),
+            lat1: LatchState::from(words.lat1),
+            hea_coil_stage_3: PidState::from(words.hea_coil_stage_3),
+            tim5: HeldTimerState::from(words.tim5),
+            lat2: LatchState::from(words.lat2),
+            end_sta_two: EdgeState::from(words.end_sta_two),
         }
     }
 }

@@ -1,11 +1,11 @@
 // `FreezeLeft` of freeze_protection as words. Written by tools/words.
 ghost use Rattle.std.specs.Prelude.{◌≡◌};
-ghost use Rattle.freeze_words.specs.FreezeLeft.{freeze_left_words, freeze_left_zero};
+ghost use Rattle.freeze_words.specs.FreezeLeft.{freeze_left_words};
 
 use freeze_protection::types::FreezeLeft;
 
 #[repr(C)]
-#[derive(Clone, Copy)]
+#[derive(Clone, Copy, Default)]
 pub struct FreezeLeftWords {
     pub tim: f64,
     pub tim1: f64,
@@ -15,12 +15,12 @@ pub struct FreezeLeftWords {
     pub tim5: f64,
 }
 
-impl FreezeLeftWords {
+impl From<FreezeLeft> for FreezeLeftWords {
+    ghost from_gives = { λ s w. w ≡ freeze_left_words s };
+
     #[tactic(auto, unfolding(crate::specs::FreezeLeft::freeze_left_words))]
     #[inline(always)]
-    pub fn of(value: FreezeLeft) -> Self
-        ensures { result ≡ freeze_left_words value }
-    {
+    fn from(value: FreezeLeft) -> Self {
         FreezeLeftWords {
             tim: value.tim,
             tim1: value.tim1,
@@ -28,21 +28,6 @@ impl FreezeLeftWords {
             tim3: value.tim3,
             tim4: value.tim4,
             tim5: value.tim5,
-        }
-    }
-
-    #[tactic(auto, unfolding(crate::specs::FreezeLeft::freeze_left_zero))]
-    #[inline(always)]
-    pub fn zero() -> Self
-        ensures { result ≡ freeze_left_zero }
-    {
-        FreezeLeftWords {
-            tim: 0.0,
-            tim1: 0.0,
-            tim2: 0.0,
-            tim3: 0.0,
-            tim4: 0.0,
-            tim5: 0.0,
         }
     }
 }

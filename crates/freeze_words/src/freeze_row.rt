@@ -2,7 +2,6 @@
 ghost use Rattle.std.specs.Prelude.{◌≡◌};
 ghost use Rattle.freeze_words.specs.FreezeRow.{freeze_row_of};
 
-use block_words::flags::word_flag;
 use freeze_protection::types::FreezeRow;
 
 #[repr(C)]
@@ -22,25 +21,25 @@ pub struct FreezeRowWords {
     pub mixed_air_temperature: f64,
 }
 
-impl FreezeRowWords {
-    #[tactic(auto, unfolding(crate::specs::FreezeRow::freeze_row_of))]
+impl From<FreezeRowWords> for FreezeRow {
+    ghost from_gives = { λ w s. s ≡ freeze_row_of w };
+
+    #[tactic(auto, unfolding(crate::specs::FreezeRow::freeze_row_of, block_words::specs::Flags::word_flag))]
     #[inline(always)]
-    pub fn value(self) -> FreezeRow
-        ensures { result ≡ freeze_row_of self }
-    {
+    fn from(words: FreezeRowWords) -> Self {
         FreezeRow {
-            time: self.time,
-            outdoor_damper_min_position: self.outdoor_damper_min_position,
-            outdoor_damper: self.outdoor_damper,
-            heating_coil: self.heating_coil,
-            minimum_outdoor_damper: self.minimum_outdoor_damper,
-            return_damper: self.return_damper,
-            supply_air_temperature: self.supply_air_temperature,
-            software_reset: word_flag(self.software_reset),
-            supply_fan_status: word_flag(self.supply_fan_status),
-            supply_fan_speed: self.supply_fan_speed,
-            cooling_coil: self.cooling_coil,
-            mixed_air_temperature: self.mixed_air_temperature,
+            time: words.time,
+            outdoor_damper_min_position: words.outdoor_damper_min_position,
+            outdoor_damper: words.outdoor_damper,
+            heating_coil: words.heating_coil,
+            minimum_outdoor_damper: words.minimum_outdoor_damper,
+            return_damper: words.return_damper,
+            supply_air_temperature: words.supply_air_temperature,
+            software_reset: words.software_reset != 0,
+            supply_fan_status: words.supply_fan_status != 0,
+            supply_fan_speed: words.supply_fan_speed,
+            cooling_coil: words.cooling_coil,
+            mixed_air_temperature: words.mixed_air_temperature,
         }
     }
 }

@@ -1,14 +1,13 @@
 // `FreezeSignals` of freeze_protection as words. Written by tools/words.
 ghost use Rattle.std.specs.Prelude.{◌≡◌};
-ghost use Rattle.freeze_words.specs.FreezeSignals.{freeze_signals_words, freeze_signals_zero};
+ghost use Rattle.freeze_words.specs.FreezeSignals.{freeze_signals_words};
 
 use crate::freeze_calls::FreezeCallsWords;
-use block_words::flags::flag_word;
 use block_words::timer_output::TimerOutputWords;
 use freeze_protection::types::FreezeSignals;
 
 #[repr(C)]
-#[derive(Clone, Copy)]
+#[derive(Clone, Copy, Default)]
 pub struct FreezeSignalsWords {
     pub calls: FreezeCallsWords,
     pub or8_y: u64,
@@ -24,48 +23,25 @@ pub struct FreezeSignalsWords {
     pub stage_3_heat: f64,
 }
 
-impl FreezeSignalsWords {
-    #[tactic(auto, unfolding(crate::specs::FreezeSignals::freeze_signals_words))]
+impl From<FreezeSignals> for FreezeSignalsWords {
+    ghost from_gives = { λ s w. w ≡ freeze_signals_words s };
+
+    #[tactic(auto, unfolding(crate::specs::FreezeSignals::freeze_signals_words, block_words::specs::Flags::flag_word))]
     #[inline(always)]
-    pub fn of(value: FreezeSignals) -> Self
-        ensures { result ≡ freeze_signals_words value }
-    {
-        let calls = value.calls;
-        let tim5 = value.tim5;
+    fn from(value: FreezeSignals) -> Self {
         FreezeSignalsWords {
-            calls: FreezeCallsWords::of(calls),
-            or8_y: flag_word(value.or8_y),
-            lat1_y: flag_word(value.lat1_y),
-            tim5: TimerOutputWords::of(tim5),
-            end_sta_two_y: flag_word(value.end_sta_two_y),
-            lat2_y: flag_word(value.lat2_y),
-            or2_y: flag_word(value.or2_y),
-            lat_y: flag_word(value.lat_y),
+            calls: FreezeCallsWords::from(value.calls),
+            or8_y: u64::from(value.or8_y),
+            lat1_y: u64::from(value.lat1_y),
+            tim5: TimerOutputWords::from(value.tim5),
+            end_sta_two_y: u64::from(value.end_sta_two_y),
+            lat2_y: u64::from(value.lat2_y),
+            or2_y: u64::from(value.or2_y),
+            lat_y: u64::from(value.lat_y),
             stage: value.stage,
             stage_1_heat: value.stage_1_heat,
             stage_3_measurement: value.stage_3_measurement,
             stage_3_heat: value.stage_3_heat,
-        }
-    }
-
-    #[tactic(auto, unfolding(crate::specs::FreezeSignals::freeze_signals_zero))]
-    #[inline(always)]
-    pub fn zero() -> Self
-        ensures { result ≡ freeze_signals_zero }
-    {
-        FreezeSignalsWords {
-            calls: FreezeCallsWords::zero(),
-            or8_y: 0,
-            lat1_y: 0,
-            tim5: TimerOutputWords::zero(),
-            end_sta_two_y: 0,
-            lat2_y: 0,
-            or2_y: 0,
-            lat_y: 0,
-            stage: 0,
-            stage_1_heat: 0.0,
-            stage_3_measurement: 0.0,
-            stage_3_heat: 0.0,
         }
     }
 }

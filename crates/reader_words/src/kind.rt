@@ -10,33 +10,32 @@ pub struct KindWords {
     pub variant: u64,
 }
 
-impl KindWords {
+impl From<Kind> for KindWords {
+    ghost from_gives = { λ s w. w ≡ kind_words s };
+
     // The number of the variant, and what it holds; 0 for what the others would.
     #[tactic(auto, unfolding(crate::specs::Kind::kind_words))]
     #[inline(always)]
-    pub fn of(value: Kind) -> Self
-        ensures { result ≡ kind_words value }
-    {
+    fn from(value: Kind) -> Self {
         match value {
             Kind::Freeze => KindWords { variant: 0 },
             Kind::Relief => KindWords { variant: 1 },
             Kind::Econ => KindWords { variant: 2 },
         }
     }
+}
+
+impl From<KindWords> for Kind {
+    ghost from_gives = { λ w s. s ≡ kind_of w };
 
     // A number that no variant has is read as `Econ`.
     #[tactic(auto, unfolding(crate::specs::Kind::kind_of))]
     #[inline(always)]
-    pub fn value(self) -> Kind
-        ensures { result ≡ kind_of self }
-    {
-        let variant = self.variant;
-        if variant == 0 {
-            return Kind::Freeze;
+    fn from(words: KindWords) -> Self {
+        match words.variant {
+            0 => Kind::Freeze,
+            1 => Kind::Relief,
+            _ => Kind::Econ,
         }
-        if variant == 1 {
-            return Kind::Relief;
-        }
-        Kind::Econ
     }
 }

@@ -3,7 +3,7 @@ ghost use Rattle.std.specs.Prelude.{◌≡◌};
 ghost use Rattle.reader_words.specs.Phase.{phase_words, phase_of};
 
 use crate::kind::KindWords;
-use row_kinds::kind::Phase;
+use row_kinds::kind::{Kind, Phase};
 
 #[repr(C)]
 #[derive(Clone, Copy)]
@@ -12,13 +12,13 @@ pub struct PhaseWords {
     pub rows: KindWords,
 }
 
-impl PhaseWords {
+impl From<Phase> for PhaseWords {
+    ghost from_gives = { λ s w. w ≡ phase_words s };
+
     // The number of the variant, and what it holds; 0 for what the others would.
     #[tactic(auto, unfolding(crate::specs::Phase::phase_words))]
     #[inline(always)]
-    pub fn of(value: Phase) -> Self
-        ensures { result ≡ phase_words value }
-    {
+    fn from(value: Phase) -> Self {
         match value {
             Phase::First => PhaseWords {
                 variant: 0,
@@ -26,7 +26,7 @@ impl PhaseWords {
             },
             Phase::Rows(rows) => PhaseWords {
                 variant: 1,
-                rows: KindWords::of(rows),
+                rows: KindWords::from(rows),
             },
             Phase::Stopped => PhaseWords {
                 variant: 2,
@@ -34,21 +34,19 @@ impl PhaseWords {
             },
         }
     }
+}
+
+impl From<PhaseWords> for Phase {
+    ghost from_gives = { λ w s. s ≡ phase_of w };
 
     // A number that no variant has is read as `Stopped`.
     #[tactic(auto, unfolding(crate::specs::Phase::phase_of))]
     #[inline(always)]
-    pub fn value(self) -> Phase
-        ensures { result ≡ phase_of self }
-    {
-        let variant = self.variant;
-        let rows = self.rows;
-        if variant == 0 {
-            return Phase::First;
+    fn from(words: PhaseWords) -> Self {
+        match words.variant {
+            0 => Phase::First,
+            1 => Phase::Rows(Kind::from(words.rows)),
+            _ => Phase::Stopped,
         }
-        if variant == 1 {
-            return Phase::Rows(rows.value());
-        }
-        Phase::Stopped
     }
 }

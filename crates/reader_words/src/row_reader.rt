@@ -5,8 +5,13 @@ ghost use Rattle.reader_words.specs.RowReader.{row_reader_words, row_reader_of};
 use crate::phase::PhaseWords;
 use block_words::integrator::IntegratorWords;
 use econ_words::economizer::EconomizerWords;
+use economizer_controller::types::EconomizerState;
+use freeze_protection::types::FreezeState;
 use freeze_words::freeze::FreezeWords;
+use moving_average::lent::Integrator;
+use relief_fan_group::types::ReliefBlocks;
 use relief_words::relief_blocks::ReliefBlocksWords;
+use row_kinds::kind::Phase;
 use row_kinds::types::RowReader;
 
 #[repr(C)]
@@ -19,42 +24,34 @@ pub struct RowReaderWords {
     pub econ: EconomizerWords,
 }
 
-impl RowReaderWords {
+impl From<RowReader> for RowReaderWords {
+    ghost from_gives = { λ s w. w ≡ row_reader_words s };
+
     #[tactic(auto, unfolding(crate::specs::RowReader::row_reader_words))]
     #[inline(always)]
-    pub fn of(value: RowReader) -> Self
-        ensures { result ≡ row_reader_words value }
-    {
-        let phase = value.phase;
-        let freeze = value.freeze;
-        let integrator = value.integrator;
-        let blocks = value.blocks;
-        let econ = value.econ;
+    fn from(value: RowReader) -> Self {
         RowReaderWords {
-            phase: PhaseWords::of(phase),
-            freeze: FreezeWords::of(freeze),
-            integrator: IntegratorWords::of(integrator),
-            blocks: ReliefBlocksWords::of(blocks),
-            econ: EconomizerWords::of(econ),
+            phase: PhaseWords::from(value.phase),
+            freeze: FreezeWords::from(value.freeze),
+            integrator: IntegratorWords::from(value.integrator),
+            blocks: ReliefBlocksWords::from(value.blocks),
+            econ: EconomizerWords::from(value.econ),
         }
     }
+}
+
+impl From<RowReaderWords> for RowReader {
+    ghost from_gives = { λ w s. s ≡ row_reader_of w };
 
     #[tactic(auto, unfolding(crate::specs::RowReader::row_reader_of))]
     #[inline(always)]
-    pub fn value(self) -> RowReader
-        ensures { result ≡ row_reader_of self }
-    {
-        let phase = self.phase;
-        let freeze = self.freeze;
-        let integrator = self.integrator;
-        let blocks = self.blocks;
-        let econ = self.econ;
+    fn from(words: RowReaderWords) -> Self {
         RowReader {
-            phase: phase.value(),
-            freeze: freeze.value(),
-            integrator: integrator.value(),
-            blocks: blocks.value(),
-            econ: econ.value(),
+            phase: Phase::from(words.phase),
+            freeze: FreezeState::from(words.freeze),
+            integrator: Integrator::from(words.integrator),
+            blocks: ReliefBlocks::from(words.blocks),
+            econ: EconomizerState::from(words.econ),
         }
     }
 }

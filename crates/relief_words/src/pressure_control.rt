@@ -1,12 +1,11 @@
 // `PressureControl` of relief_fan_group as words. Written by tools/words.
 ghost use Rattle.std.specs.Prelude.{◌≡◌};
-ghost use Rattle.relief_words.specs.PressureControl.{pressure_control_words, pressure_control_zero};
+ghost use Rattle.relief_words.specs.PressureControl.{pressure_control_words};
 
-use block_words::flags::flag_word;
 use relief_fan_group::types::PressureControl;
 
 #[repr(C)]
-#[derive(Clone, Copy)]
+#[derive(Clone, Copy, Default)]
 pub struct PressureControlWords {
     pub average: f64,
     pub controller: f64,
@@ -17,38 +16,22 @@ pub struct PressureControlWords {
     pub any_enabled: u64,
 }
 
-impl PressureControlWords {
-    #[tactic(auto, unfolding(crate::specs::PressureControl::pressure_control_words))]
+impl From<PressureControl> for PressureControlWords {
+    ghost from_gives = { λ s w. w ≡ pressure_control_words s };
+
+    #[tactic(auto, unfolding(crate::specs::PressureControl::pressure_control_words, block_words::specs::Flags::flag_word))]
     #[inline(always)]
-    pub fn of(value: PressureControl) -> Self
-        ensures { result ≡ pressure_control_words value }
-    {
+    fn from(value: PressureControl) -> Self {
         let ena_rel = value.ena_rel;
         let gai = value.gai;
         PressureControlWords {
             average: value.average,
             controller: value.controller,
-            ena_rel_group: flag_word(value.ena_rel_group),
+            ena_rel_group: u64::from(value.ena_rel_group),
             gated_controller: value.gated_controller,
             ena_rel,
             gai,
-            any_enabled: flag_word(value.any_enabled),
-        }
-    }
-
-    #[tactic(auto, unfolding(crate::specs::PressureControl::pressure_control_zero))]
-    #[inline(always)]
-    pub fn zero() -> Self
-        ensures { result ≡ pressure_control_zero }
-    {
-        PressureControlWords {
-            average: 0.0,
-            controller: 0.0,
-            ena_rel_group: 0,
-            gated_controller: 0.0,
-            ena_rel: [0.0; 4],
-            gai: [0.0; 4],
-            any_enabled: 0,
+            any_enabled: u64::from(value.any_enabled),
         }
     }
 }

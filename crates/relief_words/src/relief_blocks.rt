@@ -10,6 +10,10 @@ use block_words::threshold::{ThresholdWords, threshold_values_of_four, threshold
 use block_words::true_delay_on_init::{
     TrueDelayOnInitWords, true_delay_on_init_values_of_four, true_delay_on_init_words_of_four,
 };
+use logical::latch::LatchState;
+use logical::pre::PreState;
+use logical::present_timer::PresentTimerState;
+use reals::threshold::ThresholdState;
 use relief_fan_group::types::ReliefBlocks;
 
 #[repr(C)]
@@ -40,111 +44,87 @@ pub struct ReliefBlocksWords {
     pub gre_thr3: [ThresholdWords; 4],
 }
 
-impl ReliefBlocksWords {
+impl From<ReliefBlocks> for ReliefBlocksWords {
+    ghost from_gives = { λ s w. w ≡ relief_blocks_words s };
+
     #[tactic(auto, unfolding(crate::specs::ReliefBlocks::relief_blocks_words))]
     #[inline(always)]
-    pub fn of(value: ReliefBlocks) -> Self
-        ensures { result ≡ relief_blocks_words value }
-    {
-        let last = value.last;
+    fn from(value: ReliefBlocks) -> Self {
         let alarms = value.alarms;
-        let gre_thr = value.gre_thr;
-        let les_thr = value.les_thr;
-        let tim = value.tim;
-        let lat = value.lat;
-        let gre_thr1 = value.gre_thr1;
-        let gre_thr2 = value.gre_thr2;
-        let up_tim = value.up_tim;
-        let pre = value.pre;
-        let les_thr1 = value.les_thr1;
-        let les_thr2 = value.les_thr2;
-        let tru_del = value.tru_del;
-        let lat2 = value.lat2;
-        let les_thr3 = value.les_thr3;
-        let dow_tim = value.dow_tim;
-        let pre1 = value.pre1;
-        let les_thr4 = value.les_thr4;
-        let les_thr5 = value.les_thr5;
-        let tru_del1 = value.tru_del1;
-        let lat1 = value.lat1;
-        let gre_thr3 = value.gre_thr3;
+        let gre_thr1 = threshold_words_of_four(value.gre_thr1);
+        let les_thr1 = threshold_words_of_four(value.les_thr1);
+        let les_thr2 = threshold_words_of_four(value.les_thr2);
+        let tru_del = true_delay_on_init_words_of_four(value.tru_del);
+        let les_thr4 = threshold_words_of_four(value.les_thr4);
+        let les_thr5 = threshold_words_of_four(value.les_thr5);
+        let tru_del1 = true_delay_on_init_words_of_four(value.tru_del1);
+        let gre_thr3 = threshold_words_of_four(value.gre_thr3);
         ReliefBlocksWords {
-            last: SeenWords::of(last),
+            last: SeenWords::from(value.last),
             alarms,
             alarms_unused: [0; 4],
-            gre_thr: ThresholdWords::of(gre_thr),
-            les_thr: ThresholdWords::of(les_thr),
-            tim: PresentTimerWords::of(tim),
-            lat: LatchWords::of(lat),
-            gre_thr1: threshold_words_of_four(gre_thr1),
-            gre_thr2: ThresholdWords::of(gre_thr2),
-            up_tim: PresentTimerWords::of(up_tim),
-            pre: PreWords::of(pre),
-            les_thr1: threshold_words_of_four(les_thr1),
-            les_thr2: threshold_words_of_four(les_thr2),
-            tru_del: true_delay_on_init_words_of_four(tru_del),
-            lat2: LatchWords::of(lat2),
-            les_thr3: ThresholdWords::of(les_thr3),
-            dow_tim: PresentTimerWords::of(dow_tim),
-            pre1: PreWords::of(pre1),
-            les_thr4: threshold_words_of_four(les_thr4),
-            les_thr5: threshold_words_of_four(les_thr5),
-            tru_del1: true_delay_on_init_words_of_four(tru_del1),
-            lat1: LatchWords::of(lat1),
-            gre_thr3: threshold_words_of_four(gre_thr3),
+            gre_thr: ThresholdWords::from(value.gre_thr),
+            les_thr: ThresholdWords::from(value.les_thr),
+            tim: PresentTimerWords::from(value.tim),
+            lat: LatchWords::from(value.lat),
+            gre_thr1,
+            gre_thr2: ThresholdWords::from(value.gre_thr2),
+            up_tim: PresentTimerWords::from(value.up_tim),
+            pre: PreWords::from(value.pre),
+            les_thr1,
+            les_thr2,
+            tru_del,
+            lat2: LatchWords::from(value.lat2),
+            les_thr3: ThresholdWords::from(value.les_thr3),
+            dow_tim: PresentTimerWords::from(value.dow_tim),
+            pre1: PreWords::from(value.pre1),
+            les_thr4,
+            les_thr5,
+            tru_del1,
+            lat1: LatchWords::from(value.lat1),
+            gre_thr3,
         }
     }
+}
+
+impl From<ReliefBlocksWords> for ReliefBlocks {
+    ghost from_gives = { λ w s. s ≡ relief_blocks_of w };
 
     #[tactic(auto, unfolding(crate::specs::ReliefBlocks::relief_blocks_of))]
     #[inline(always)]
-    pub fn value(self) -> ReliefBlocks
-        ensures { result ≡ relief_blocks_of self }
-    {
-        let last = self.last;
-        let alarms = self.alarms;
-        let gre_thr = self.gre_thr;
-        let les_thr = self.les_thr;
-        let tim = self.tim;
-        let lat = self.lat;
-        let gre_thr1 = self.gre_thr1;
-        let gre_thr2 = self.gre_thr2;
-        let up_tim = self.up_tim;
-        let pre = self.pre;
-        let les_thr1 = self.les_thr1;
-        let les_thr2 = self.les_thr2;
-        let tru_del = self.tru_del;
-        let lat2 = self.lat2;
-        let les_thr3 = self.les_thr3;
-        let dow_tim = self.dow_tim;
-        let pre1 = self.pre1;
-        let les_thr4 = self.les_thr4;
-        let les_thr5 = self.les_thr5;
-        let tru_del1 = self.tru_del1;
-        let lat1 = self.lat1;
-        let gre_thr3 = self.gre_thr3;
+    fn from(words: ReliefBlocksWords) -> Self {
+        let alarms = words.alarms;
+        let gre_thr1 = threshold_values_of_four(words.gre_thr1);
+        let les_thr1 = threshold_values_of_four(words.les_thr1);
+        let les_thr2 = threshold_values_of_four(words.les_thr2);
+        let tru_del = true_delay_on_init_values_of_four(words.tru_del);
+        let les_thr4 = threshold_values_of_four(words.les_thr4);
+        let les_thr5 = threshold_values_of_four(words.les_thr5);
+        let tru_del1 = true_delay_on_init_values_of_four(words.tru_del1);
+        let gre_thr3 = threshold_values_of_four(words.gre_thr3);
         ReliefBlocks {
-            last: last.value(),
+            last: Option::from(words.last),
             alarms,
-            gre_thr: gre_thr.value(),
-            les_thr: les_thr.value(),
-            tim: tim.value(),
-            lat: lat.value(),
-            gre_thr1: threshold_values_of_four(gre_thr1),
-            gre_thr2: gre_thr2.value(),
-            up_tim: up_tim.value(),
-            pre: pre.value(),
-            les_thr1: threshold_values_of_four(les_thr1),
-            les_thr2: threshold_values_of_four(les_thr2),
-            tru_del: true_delay_on_init_values_of_four(tru_del),
-            lat2: lat2.value(),
-            les_thr3: les_thr3.value(),
-            dow_tim: dow_tim.value(),
-            pre1: pre1.value(),
-            les_thr4: threshold_values_of_four(les_thr4),
-            les_thr5: threshold_values_of_four(les_thr5),
-            tru_del1: true_delay_on_init_values_of_four(tru_del1),
-            lat1: lat1.value(),
-            gre_thr3: threshold_values_of_four(gre_thr3),
+            gre_thr: ThresholdState::from(words.gre_thr),
+            les_thr: ThresholdState::from(words.les_thr),
+            tim: PresentTimerState::from(words.tim),
+            lat: LatchState::from(words.lat),
+            gre_thr1,
+            gre_thr2: ThresholdState::from(words.gre_thr2),
+            up_tim: PresentTimerState::from(words.up_tim),
+            pre: PreState::from(words.pre),
+            les_thr1,
+            les_thr2,
+            tru_del,
+            lat2: LatchState::from(words.lat2),
+            les_thr3: ThresholdState::from(words.les_thr3),
+            dow_tim: PresentTimerState::from(words.dow_tim),
+            pre1: PreState::from(words.pre1),
+            les_thr4,
+            les_thr5,
+            tru_del1,
+            lat1: LatchState::from(words.lat1),
+            gre_thr3,
         }
     }
 }

@@ -1,11 +1,11 @@
 // `ReliefCommands` of relief_fan_group as words. Written by tools/words.
 ghost use Rattle.std.specs.Prelude.{◌≡◌};
-ghost use Rattle.relief_words.specs.ReliefCommands.{relief_commands_words, relief_commands_zero};
+ghost use Rattle.relief_words.specs.ReliefCommands.{relief_commands_words};
 
 use relief_fan_group::types::ReliefCommands;
 
 #[repr(C)]
-#[derive(Clone, Copy)]
+#[derive(Clone, Copy, Default)]
 pub struct ReliefCommandsWords {
     pub averaged_pressure: f64,
     pub fan_speed_1: f64,
@@ -18,12 +18,12 @@ pub struct ReliefCommandsWords {
     pub damper_4: f64,
 }
 
-impl ReliefCommandsWords {
+impl From<ReliefCommands> for ReliefCommandsWords {
+    ghost from_gives = { λ s w. w ≡ relief_commands_words s };
+
     #[tactic(auto, unfolding(crate::specs::ReliefCommands::relief_commands_words))]
     #[inline(always)]
-    pub fn of(value: ReliefCommands) -> Self
-        ensures { result ≡ relief_commands_words value }
-    {
+    fn from(value: ReliefCommands) -> Self {
         ReliefCommandsWords {
             averaged_pressure: value.averaged_pressure,
             fan_speed_1: value.fan_speed_1,
@@ -34,24 +34,6 @@ impl ReliefCommandsWords {
             damper_2: value.damper_2,
             damper_3: value.damper_3,
             damper_4: value.damper_4,
-        }
-    }
-
-    #[tactic(auto, unfolding(crate::specs::ReliefCommands::relief_commands_zero))]
-    #[inline(always)]
-    pub fn zero() -> Self
-        ensures { result ≡ relief_commands_zero }
-    {
-        ReliefCommandsWords {
-            averaged_pressure: 0.0,
-            fan_speed_1: 0.0,
-            fan_speed_2: 0.0,
-            fan_speed_3: 0.0,
-            fan_speed_4: 0.0,
-            damper_1: 0.0,
-            damper_2: 0.0,
-            damper_3: 0.0,
-            damper_4: 0.0,
         }
     }
 }

@@ -1,39 +1,27 @@
 // `ReliefLeft` of relief_fan_group as words. Written by tools/words.
 ghost use Rattle.std.specs.Prelude.{◌≡◌};
-ghost use Rattle.relief_words.specs.ReliefLeft.{relief_left_words, relief_left_zero};
+ghost use Rattle.relief_words.specs.ReliefLeft.{relief_left_words};
 
 use relief_fan_group::types::ReliefLeft;
 
 #[repr(C)]
-#[derive(Clone, Copy)]
+#[derive(Clone, Copy, Default)]
 pub struct ReliefLeftWords {
     pub tim: f64,
     pub up_tim: f64,
     pub dow_tim: f64,
 }
 
-impl ReliefLeftWords {
+impl From<ReliefLeft> for ReliefLeftWords {
+    ghost from_gives = { λ s w. w ≡ relief_left_words s };
+
     #[tactic(auto, unfolding(crate::specs::ReliefLeft::relief_left_words))]
     #[inline(always)]
-    pub fn of(value: ReliefLeft) -> Self
-        ensures { result ≡ relief_left_words value }
-    {
+    fn from(value: ReliefLeft) -> Self {
         ReliefLeftWords {
             tim: value.tim,
             up_tim: value.up_tim,
             dow_tim: value.dow_tim,
-        }
-    }
-
-    #[tactic(auto, unfolding(crate::specs::ReliefLeft::relief_left_zero))]
-    #[inline(always)]
-    pub fn zero() -> Self
-        ensures { result ≡ relief_left_zero }
-    {
-        ReliefLeftWords {
-            tim: 0.0,
-            up_tim: 0.0,
-            dow_tim: 0.0,
         }
     }
 }

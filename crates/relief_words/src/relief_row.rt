@@ -2,7 +2,6 @@
 ghost use Rattle.std.specs.Prelude.{◌≡◌};
 ghost use Rattle.relief_words.specs.ReliefRow.{relief_row_of};
 
-use block_words::flags::{flag_values_of_four, flag_values_of_two};
 use relief_fan_group::types::ReliefRow;
 
 #[repr(C)]
@@ -15,21 +14,21 @@ pub struct ReliefRowWords {
     pub proof: [u64; 4],
 }
 
-impl ReliefRowWords {
-    #[tactic(auto, unfolding(crate::specs::ReliefRow::relief_row_of))]
+impl From<ReliefRowWords> for ReliefRow {
+    ghost from_gives = { λ w s. s ≡ relief_row_of w };
+
+    #[tactic(auto, unfolding(crate::specs::ReliefRow::relief_row_of, block_words::specs::Flags::word_flag))]
     #[inline(always)]
-    pub fn value(self) -> ReliefRow
-        ensures { result ≡ relief_row_of self }
-    {
-        let supply = self.supply;
-        let alarm = self.alarm;
-        let proof = self.proof;
+    fn from(words: ReliefRowWords) -> Self {
+        let supply = words.supply.map(|word| word != 0);
+        let alarm = words.alarm;
+        let proof = words.proof.map(|word| word != 0);
         ReliefRow {
-            time: self.time,
-            supply: flag_values_of_two(supply),
-            pressure: self.pressure,
+            time: words.time,
+            supply,
+            pressure: words.pressure,
             alarm,
-            proof: flag_values_of_four(proof),
+            proof,
         }
     }
 }

@@ -1,6 +1,6 @@
 // `ReliefSignals` of relief_fan_group as words. Written by tools/words.
 ghost use Rattle.std.specs.Prelude.{◌≡◌};
-ghost use Rattle.relief_words.specs.ReliefSignals.{relief_signals_words, relief_signals_zero};
+ghost use Rattle.relief_words.specs.ReliefSignals.{relief_signals_words};
 
 use crate::damper_enable::DamperEnableWords;
 use crate::pressure_control::PressureControlWords;
@@ -9,7 +9,7 @@ use crate::stage_up::StageUpWords;
 use relief_fan_group::types::ReliefSignals;
 
 #[repr(C)]
-#[derive(Clone, Copy)]
+#[derive(Clone, Copy, Default)]
 pub struct ReliefSignalsWords {
     pub control: PressureControlWords,
     pub dampers: DamperEnableWords,
@@ -17,34 +17,17 @@ pub struct ReliefSignalsWords {
     pub down: StageDownWords,
 }
 
-impl ReliefSignalsWords {
+impl From<ReliefSignals> for ReliefSignalsWords {
+    ghost from_gives = { λ s w. w ≡ relief_signals_words s };
+
     #[tactic(auto, unfolding(crate::specs::ReliefSignals::relief_signals_words))]
     #[inline(always)]
-    pub fn of(value: ReliefSignals) -> Self
-        ensures { result ≡ relief_signals_words value }
-    {
-        let control = value.control;
-        let dampers = value.dampers;
-        let up = value.up;
-        let down = value.down;
+    fn from(value: ReliefSignals) -> Self {
         ReliefSignalsWords {
-            control: PressureControlWords::of(control),
-            dampers: DamperEnableWords::of(dampers),
-            up: StageUpWords::of(up),
-            down: StageDownWords::of(down),
-        }
-    }
-
-    #[tactic(auto, unfolding(crate::specs::ReliefSignals::relief_signals_zero))]
-    #[inline(always)]
-    pub fn zero() -> Self
-        ensures { result ≡ relief_signals_zero }
-    {
-        ReliefSignalsWords {
-            control: PressureControlWords::zero(),
-            dampers: DamperEnableWords::zero(),
-            up: StageUpWords::zero(),
-            down: StageDownWords::zero(),
+            control: PressureControlWords::from(value.control),
+            dampers: DamperEnableWords::from(value.dampers),
+            up: StageUpWords::from(value.up),
+            down: StageDownWords::from(value.down),
         }
     }
 }

@@ -1,13 +1,12 @@
 // `StageDown` of relief_fan_group as words. Written by tools/words.
 ghost use Rattle.std.specs.Prelude.{◌≡◌};
-ghost use Rattle.relief_words.specs.StageDown.{stage_down_words, stage_down_zero};
+ghost use Rattle.relief_words.specs.StageDown.{stage_down_words};
 
-use block_words::flags::{flag_word, flag_words_of_four};
 use block_words::timer_output::TimerOutputWords;
 use relief_fan_group::types::StageDown;
 
 #[repr(C)]
-#[derive(Clone, Copy)]
+#[derive(Clone, Copy, Default)]
 pub struct StageDownWords {
     pub pro2: [f64; 4],
     pub down_distance: [f64; 4],
@@ -19,43 +18,25 @@ pub struct StageDownWords {
     pub lat1_y: u64,
 }
 
-impl StageDownWords {
-    #[tactic(auto, unfolding(crate::specs::StageDown::stage_down_words))]
+impl From<StageDown> for StageDownWords {
+    ghost from_gives = { λ s w. w ≡ stage_down_words s };
+
+    #[tactic(auto, unfolding(crate::specs::StageDown::stage_down_words, block_words::specs::Flags::flag_word))]
     #[inline(always)]
-    pub fn of(value: StageDown) -> Self
-        ensures { result ≡ stage_down_words value }
-    {
+    fn from(value: StageDown) -> Self {
         let pro2 = value.pro2;
         let down_distance = value.down_distance;
-        let xor = value.xor;
-        let not5 = value.not5;
-        let dow_tim = value.dow_tim;
+        let xor = value.xor.map(u64::from);
+        let not5 = value.not5.map(u64::from);
         StageDownWords {
             pro2,
             down_distance,
-            xor: flag_words_of_four(xor),
-            not5: flag_words_of_four(not5),
-            all_stopped_matches: flag_word(value.all_stopped_matches),
-            down_gate: flag_word(value.down_gate),
-            dow_tim: TimerOutputWords::of(dow_tim),
-            lat1_y: flag_word(value.lat1_y),
-        }
-    }
-
-    #[tactic(auto, unfolding(crate::specs::StageDown::stage_down_zero))]
-    #[inline(always)]
-    pub fn zero() -> Self
-        ensures { result ≡ stage_down_zero }
-    {
-        StageDownWords {
-            pro2: [0.0; 4],
-            down_distance: [0.0; 4],
-            xor: [0; 4],
-            not5: [0; 4],
-            all_stopped_matches: 0,
-            down_gate: 0,
-            dow_tim: TimerOutputWords::zero(),
-            lat1_y: 0,
+            xor,
+            not5,
+            all_stopped_matches: u64::from(value.all_stopped_matches),
+            down_gate: u64::from(value.down_gate),
+            dow_tim: TimerOutputWords::from(value.dow_tim),
+            lat1_y: u64::from(value.lat1_y),
         }
     }
 }
