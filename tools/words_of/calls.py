@@ -10,6 +10,7 @@ ECON = [
     ('freeze_protection', 'economizer_controller'),
     ('freeze_lines.specs.Freeze', 'econ_lines.specs.Econ'),
     ('declared.freeze.', 'declared.econ.'),
+    ('proofs.freeze.', 'proofs.econ.'),
     ('freeze_lines::freeze', 'econ_lines::econ'),
     ('freeze_lines', 'econ_lines'),
     ('{freeze_words', '{economizer_words'),
@@ -29,6 +30,7 @@ TIMERS = re.compile('(?<!Line)(?<!line_)[Ll]eft')
 FILES = {
     'woldgrater/src/econ.rt': ('woldgrater/src/freeze.rt', ECON),
     'woldgrater/specs/Economizer.antt': ('woldgrater/specs/Freeze.antt', ECON),
+    'woldgrater/proofs/econ/woldgrater_econ_row/Answers.antt': ('woldgrater/proofs/freeze/woldgrater_freeze_row/Answers.antt', ECON),
     'woldgrater_service/src/econ.rt': ('woldgrater_service/src/freeze.rt', ECON, TIMERS),
 }
 

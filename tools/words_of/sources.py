@@ -28,12 +28,11 @@ class Sources(Names):
         return sorted(found, key=lambda path: (not path.startswith('crate::'), path))
 
     def source(self, kind, asked):
-        names = [name for what, name in (('of', kind.to), ('value', kind.back)) if what in asked]
+        names = [name for what, name in (('of', kind.to), ('value', kind.back), ('zero', kind.zero)) if what in asked]
         lines = [f'// `{kind.typed}` {self.of_crate(kind)}as words. {MADE}', 'ghost use Rattle.std.specs.Prelude.{◌≡◌' + (', map' if self.lists_of(kind) else '') + '};']
         lines += [f'ghost use Rattle.{self.crate}.specs.{kind.page}.{{{", ".join(names)}}};', '']
         lines += grouped(self.uses(kind, asked))
-        derives = ['Clone', 'Copy'] + (['Default'] if 'zero' in asked else [])
-        lines += ['', '#[repr(C)]', f'#[derive({", ".join(derives)})]', f'pub struct {kind.words} {{']
+        lines += ['', '#[repr(C)]', '#[derive(Clone, Copy)]', f'pub struct {kind.words} {{']
         lines += [f'    pub {name}: {self.words_type(part)},' for name, part in (held(kind) if kind.variants else word_fields(kind))]
         lines += ['}']
         if 'of' in asked:
@@ -42,6 +41,8 @@ class Sources(Names):
         if 'value' in asked:
             body = self.value_enum(kind) if kind.variants else self.value_struct(kind)
             lines += self.conversion(kind.words, kind.typed, f'λ w s. s ≡ {kind.back} w', kind, 'value', body)
+        if 'zero' in asked:
+            lines += self.zero_made(kind)
         for length, what in self.lists_of(kind):
             lines += self.list_made(kind, length, what)
         return '\n'.join(lines) + '\n'
@@ -68,6 +69,17 @@ class Sources(Names):
         return ['', f'impl From<{given}> for {made} {{', f'    ghost from_gives = {{ {gives} }};', '', *remark,
                 f'    #[tactic(auto, unfolding({", ".join(opened)}))]', '    #[inline(always)]',
                 f'    fn from({argument}: {given}) -> Self {{', *body, '    }', '}']
+
+    def zero_made(self, kind):
+        """Words that are all 0, by default: a derived `Default` says its value field by field, and not that it is the definition's."""
+        lines = ['', f'impl Default for {kind.words} {{', f'    ghost is_default = {{ λ w. w ≡ {kind.zero} }};', '',
+                 f'    #[tactic(auto, unfolding(crate::specs::{kind.page}::{kind.zero}))]', '    #[inline(always)]', '    fn default() -> Self {',
+                 f'        {kind.words} {{']
+        for name, part in word_fields(kind):
+            one = declared.element(part)
+            text = f'{self.types[one].words}::default()' if one in self.types and not declared.array(part) else self.zero_of(part)
+            lines.append(f'            {name}: {text},')
+        return lines + ['        }', '    }', '}']
 
     def remark(self, kind, what):
         if what == 'of':

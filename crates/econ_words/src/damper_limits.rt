@@ -1,11 +1,11 @@
 // `DamperLimits` of economizer_controller as words. Written by tools/words.
 ghost use Rattle.std.specs.Prelude.{◌≡◌};
-ghost use Rattle.econ_words.specs.DamperLimits.{damper_limits_words};
+ghost use Rattle.econ_words.specs.DamperLimits.{damper_limits_words, damper_limits_zero};
 
 use economizer_controller::types::DamperLimits;
 
 #[repr(C)]
-#[derive(Clone, Copy, Default)]
+#[derive(Clone, Copy)]
 pub struct DamperLimitsWords {
     pub outdoor_damper_min_limit: f64,
     pub outdoor_damper_max_limit: f64,
@@ -26,6 +26,22 @@ impl From<DamperLimits> for DamperLimitsWords {
             return_damper_min_limit: value.return_damper_min_limit,
             return_damper_max_limit: value.return_damper_max_limit,
             return_damper_physical_max_limit: value.return_damper_physical_max_limit,
+        }
+    }
+}
+
+impl Default for DamperLimitsWords {
+    ghost is_default = { λ w. w ≡ damper_limits_zero };
+
+    #[tactic(auto, unfolding(crate::specs::DamperLimits::damper_limits_zero))]
+    #[inline(always)]
+    fn default() -> Self {
+        DamperLimitsWords {
+            outdoor_damper_min_limit: 0.0,
+            outdoor_damper_max_limit: 0.0,
+            return_damper_min_limit: 0.0,
+            return_damper_max_limit: 0.0,
+            return_damper_physical_max_limit: 0.0,
         }
     }
 }

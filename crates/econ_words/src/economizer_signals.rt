@@ -1,6 +1,6 @@
 // `EconomizerSignals` of economizer_controller as words. Written by tools/words.
 ghost use Rattle.std.specs.Prelude.{◌≡◌};
-ghost use Rattle.econ_words.specs.EconomizerSignals.{economizer_signals_words};
+ghost use Rattle.econ_words.specs.EconomizerSignals.{economizer_signals_words, economizer_signals_zero};
 
 use crate::damper_limits::DamperLimitsWords;
 use crate::enable_limits::EnableLimitsWords;
@@ -8,7 +8,7 @@ use crate::enable_signals::EnableSignalsWords;
 use economizer_controller::types::EconomizerSignals;
 
 #[repr(C)]
-#[derive(Clone, Copy, Default)]
+#[derive(Clone, Copy)]
 pub struct EconomizerSignalsWords {
     pub loop_signal: f64,
     pub minimum_outdoor_air_loop_enabled: u64,
@@ -29,6 +29,22 @@ impl From<EconomizerSignals> for EconomizerSignalsWords {
             damper_limits: DamperLimitsWords::from(value.damper_limits),
             enable: EnableSignalsWords::from(value.enable),
             enable_limits: EnableLimitsWords::from(value.enable_limits),
+        }
+    }
+}
+
+impl Default for EconomizerSignalsWords {
+    ghost is_default = { λ w. w ≡ economizer_signals_zero };
+
+    #[tactic(auto, unfolding(crate::specs::EconomizerSignals::economizer_signals_zero))]
+    #[inline(always)]
+    fn default() -> Self {
+        EconomizerSignalsWords {
+            loop_signal: 0.0,
+            minimum_outdoor_air_loop_enabled: 0,
+            damper_limits: DamperLimitsWords::default(),
+            enable: EnableSignalsWords::default(),
+            enable_limits: EnableLimitsWords::default(),
         }
     }
 }

@@ -1,11 +1,11 @@
 // `EnableSignals` of economizer_controller as words. Written by tools/words.
 ghost use Rattle.std.specs.Prelude.{◌≡◌};
-ghost use Rattle.econ_words.specs.EnableSignals.{enable_signals_words};
+ghost use Rattle.econ_words.specs.EnableSignals.{enable_signals_words, enable_signals_zero};
 
 use economizer_controller::types::EnableSignals;
 
 #[repr(C)]
-#[derive(Clone, Copy, Default)]
+#[derive(Clone, Copy)]
 pub struct EnableSignalsWords {
     pub dry_bulb_delta: f64,
     pub outdoor_air_condition: u64,
@@ -28,6 +28,23 @@ impl From<EnableSignals> for EnableSignalsWords {
             enabled: u64::from(value.enabled),
             outdoor_delay_done: u64::from(value.outdoor_delay_done),
             return_delay_done: u64::from(value.return_delay_done),
+        }
+    }
+}
+
+impl Default for EnableSignalsWords {
+    ghost is_default = { λ w. w ≡ enable_signals_zero };
+
+    #[tactic(auto, unfolding(crate::specs::EnableSignals::enable_signals_zero))]
+    #[inline(always)]
+    fn default() -> Self {
+        EnableSignalsWords {
+            dry_bulb_delta: 0.0,
+            outdoor_air_condition: 0,
+            held_condition: 0,
+            enabled: 0,
+            outdoor_delay_done: 0,
+            return_delay_done: 0,
         }
     }
 }

@@ -1,12 +1,12 @@
 // `FreezeCalls` of freeze_protection as words. Written by tools/words.
 ghost use Rattle.std.specs.Prelude.{◌≡◌};
-ghost use Rattle.freeze_words.specs.FreezeCalls.{freeze_calls_words};
+ghost use Rattle.freeze_words.specs.FreezeCalls.{freeze_calls_words, freeze_calls_zero};
 
 use block_words::timer_output::TimerOutputWords;
 use freeze_protection::types::FreezeCalls;
 
 #[repr(C)]
-#[derive(Clone, Copy, Default)]
+#[derive(Clone, Copy)]
 pub struct FreezeCallsWords {
     pub les_thr_y: u64,
     pub tim: TimerOutputWords,
@@ -39,6 +39,28 @@ impl From<FreezeCalls> for FreezeCallsWords {
             tim3: TimerOutputWords::from(value.tim3),
             les_thr2_y: u64::from(value.les_thr2_y),
             tim4: TimerOutputWords::from(value.tim4),
+        }
+    }
+}
+
+impl Default for FreezeCallsWords {
+    ghost is_default = { λ w. w ≡ freeze_calls_zero };
+
+    #[tactic(auto, unfolding(crate::specs::FreezeCalls::freeze_calls_zero))]
+    #[inline(always)]
+    fn default() -> Self {
+        FreezeCallsWords {
+            les_thr_y: 0,
+            tim: TimerOutputWords::default(),
+            gre_thr_y: 0,
+            tim1: TimerOutputWords::default(),
+            end_sta_one_y: 0,
+            les_thr1_y: 0,
+            tim2: TimerOutputWords::default(),
+            hol_sta2_y: 0,
+            tim3: TimerOutputWords::default(),
+            les_thr2_y: 0,
+            tim4: TimerOutputWords::default(),
         }
     }
 }

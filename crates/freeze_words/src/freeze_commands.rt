@@ -1,11 +1,11 @@
 // `FreezeCommands` of freeze_protection as words. Written by tools/words.
 ghost use Rattle.std.specs.Prelude.{◌≡◌};
-ghost use Rattle.freeze_words.specs.FreezeCommands.{freeze_commands_words};
+ghost use Rattle.freeze_words.specs.FreezeCommands.{freeze_commands_words, freeze_commands_zero};
 
 use freeze_protection::types::FreezeCommands;
 
 #[repr(C)]
-#[derive(Clone, Copy, Default)]
+#[derive(Clone, Copy)]
 pub struct FreezeCommandsWords {
     pub freeze_protection_stage: u64,
     pub chilled_water_pump_enable: u64,
@@ -38,6 +38,28 @@ impl From<FreezeCommands> for FreezeCommandsWords {
             heating_coil_command: value.heating_coil_command,
             hot_water_plant_request: value.hot_water_plant_request,
             alarm_level: value.alarm_level,
+        }
+    }
+}
+
+impl Default for FreezeCommandsWords {
+    ghost is_default = { λ w. w ≡ freeze_commands_zero };
+
+    #[tactic(auto, unfolding(crate::specs::FreezeCommands::freeze_commands_zero))]
+    #[inline(always)]
+    fn default() -> Self {
+        FreezeCommandsWords {
+            freeze_protection_stage: 0,
+            chilled_water_pump_enable: 0,
+            return_damper_command: 0.0,
+            outdoor_damper_command: 0.0,
+            minimum_outdoor_damper_command: 0.0,
+            supply_fan_status: 0,
+            supply_fan_speed: 0.0,
+            cooling_coil_command: 0.0,
+            heating_coil_command: 0.0,
+            hot_water_plant_request: 0,
+            alarm_level: 0,
         }
     }
 }

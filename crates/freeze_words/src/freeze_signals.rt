@@ -1,13 +1,13 @@
 // `FreezeSignals` of freeze_protection as words. Written by tools/words.
 ghost use Rattle.std.specs.Prelude.{◌≡◌};
-ghost use Rattle.freeze_words.specs.FreezeSignals.{freeze_signals_words};
+ghost use Rattle.freeze_words.specs.FreezeSignals.{freeze_signals_words, freeze_signals_zero};
 
 use crate::freeze_calls::FreezeCallsWords;
 use block_words::timer_output::TimerOutputWords;
 use freeze_protection::types::FreezeSignals;
 
 #[repr(C)]
-#[derive(Clone, Copy, Default)]
+#[derive(Clone, Copy)]
 pub struct FreezeSignalsWords {
     pub calls: FreezeCallsWords,
     pub or8_y: u64,
@@ -42,6 +42,29 @@ impl From<FreezeSignals> for FreezeSignalsWords {
             stage_1_heat: value.stage_1_heat,
             stage_3_measurement: value.stage_3_measurement,
             stage_3_heat: value.stage_3_heat,
+        }
+    }
+}
+
+impl Default for FreezeSignalsWords {
+    ghost is_default = { λ w. w ≡ freeze_signals_zero };
+
+    #[tactic(auto, unfolding(crate::specs::FreezeSignals::freeze_signals_zero))]
+    #[inline(always)]
+    fn default() -> Self {
+        FreezeSignalsWords {
+            calls: FreezeCallsWords::default(),
+            or8_y: 0,
+            lat1_y: 0,
+            tim5: TimerOutputWords::default(),
+            end_sta_two_y: 0,
+            lat2_y: 0,
+            or2_y: 0,
+            lat_y: 0,
+            stage: 0,
+            stage_1_heat: 0.0,
+            stage_3_measurement: 0.0,
+            stage_3_heat: 0.0,
         }
     }
 }

@@ -1,11 +1,11 @@
 // `PressureControl` of relief_fan_group as words. Written by tools/words.
 ghost use Rattle.std.specs.Prelude.{◌≡◌};
-ghost use Rattle.relief_words.specs.PressureControl.{pressure_control_words};
+ghost use Rattle.relief_words.specs.PressureControl.{pressure_control_words, pressure_control_zero};
 
 use relief_fan_group::types::PressureControl;
 
 #[repr(C)]
-#[derive(Clone, Copy, Default)]
+#[derive(Clone, Copy)]
 pub struct PressureControlWords {
     pub average: f64,
     pub controller: f64,
@@ -32,6 +32,24 @@ impl From<PressureControl> for PressureControlWords {
             ena_rel,
             gai,
             any_enabled: u64::from(value.any_enabled),
+        }
+    }
+}
+
+impl Default for PressureControlWords {
+    ghost is_default = { λ w. w ≡ pressure_control_zero };
+
+    #[tactic(auto, unfolding(crate::specs::PressureControl::pressure_control_zero))]
+    #[inline(always)]
+    fn default() -> Self {
+        PressureControlWords {
+            average: 0.0,
+            controller: 0.0,
+            ena_rel_group: 0,
+            gated_controller: 0.0,
+            ena_rel: [0.0; 4],
+            gai: [0.0; 4],
+            any_enabled: 0,
         }
     }
 }

@@ -1,11 +1,11 @@
 // `ReliefCommands` of relief_fan_group as words. Written by tools/words.
 ghost use Rattle.std.specs.Prelude.{◌≡◌};
-ghost use Rattle.relief_words.specs.ReliefCommands.{relief_commands_words};
+ghost use Rattle.relief_words.specs.ReliefCommands.{relief_commands_words, relief_commands_zero};
 
 use relief_fan_group::types::ReliefCommands;
 
 #[repr(C)]
-#[derive(Clone, Copy, Default)]
+#[derive(Clone, Copy)]
 pub struct ReliefCommandsWords {
     pub averaged_pressure: f64,
     pub fan_speed_1: f64,
@@ -34,6 +34,26 @@ impl From<ReliefCommands> for ReliefCommandsWords {
             damper_2: value.damper_2,
             damper_3: value.damper_3,
             damper_4: value.damper_4,
+        }
+    }
+}
+
+impl Default for ReliefCommandsWords {
+    ghost is_default = { λ w. w ≡ relief_commands_zero };
+
+    #[tactic(auto, unfolding(crate::specs::ReliefCommands::relief_commands_zero))]
+    #[inline(always)]
+    fn default() -> Self {
+        ReliefCommandsWords {
+            averaged_pressure: 0.0,
+            fan_speed_1: 0.0,
+            fan_speed_2: 0.0,
+            fan_speed_3: 0.0,
+            fan_speed_4: 0.0,
+            damper_1: 0.0,
+            damper_2: 0.0,
+            damper_3: 0.0,
+            damper_4: 0.0,
         }
     }
 }

@@ -1,6 +1,6 @@
 // `ReliefSignals` of relief_fan_group as words. Written by tools/words.
 ghost use Rattle.std.specs.Prelude.{◌≡◌};
-ghost use Rattle.relief_words.specs.ReliefSignals.{relief_signals_words};
+ghost use Rattle.relief_words.specs.ReliefSignals.{relief_signals_words, relief_signals_zero};
 
 use crate::damper_enable::DamperEnableWords;
 use crate::pressure_control::PressureControlWords;
@@ -9,7 +9,7 @@ use crate::stage_up::StageUpWords;
 use relief_fan_group::types::ReliefSignals;
 
 #[repr(C)]
-#[derive(Clone, Copy, Default)]
+#[derive(Clone, Copy)]
 pub struct ReliefSignalsWords {
     pub control: PressureControlWords,
     pub dampers: DamperEnableWords,
@@ -28,6 +28,21 @@ impl From<ReliefSignals> for ReliefSignalsWords {
             dampers: DamperEnableWords::from(value.dampers),
             up: StageUpWords::from(value.up),
             down: StageDownWords::from(value.down),
+        }
+    }
+}
+
+impl Default for ReliefSignalsWords {
+    ghost is_default = { λ w. w ≡ relief_signals_zero };
+
+    #[tactic(auto, unfolding(crate::specs::ReliefSignals::relief_signals_zero))]
+    #[inline(always)]
+    fn default() -> Self {
+        ReliefSignalsWords {
+            control: PressureControlWords::default(),
+            dampers: DamperEnableWords::default(),
+            up: StageUpWords::default(),
+            down: StageDownWords::default(),
         }
     }
 }

@@ -1,12 +1,12 @@
 // `StageDown` of relief_fan_group as words. Written by tools/words.
 ghost use Rattle.std.specs.Prelude.{◌≡◌};
-ghost use Rattle.relief_words.specs.StageDown.{stage_down_words};
+ghost use Rattle.relief_words.specs.StageDown.{stage_down_words, stage_down_zero};
 
 use block_words::timer_output::TimerOutputWords;
 use relief_fan_group::types::StageDown;
 
 #[repr(C)]
-#[derive(Clone, Copy, Default)]
+#[derive(Clone, Copy)]
 pub struct StageDownWords {
     pub pro2: [f64; 4],
     pub down_distance: [f64; 4],
@@ -37,6 +37,25 @@ impl From<StageDown> for StageDownWords {
             down_gate: u64::from(value.down_gate),
             dow_tim: TimerOutputWords::from(value.dow_tim),
             lat1_y: u64::from(value.lat1_y),
+        }
+    }
+}
+
+impl Default for StageDownWords {
+    ghost is_default = { λ w. w ≡ stage_down_zero };
+
+    #[tactic(auto, unfolding(crate::specs::StageDown::stage_down_zero))]
+    #[inline(always)]
+    fn default() -> Self {
+        StageDownWords {
+            pro2: [0.0; 4],
+            down_distance: [0.0; 4],
+            xor: [0; 4],
+            not5: [0; 4],
+            all_stopped_matches: 0,
+            down_gate: 0,
+            dow_tim: TimerOutputWords::default(),
+            lat1_y: 0,
         }
     }
 }

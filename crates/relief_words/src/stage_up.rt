@@ -1,12 +1,12 @@
 // `StageUp` of relief_fan_group as words. Written by tools/words.
 ghost use Rattle.std.specs.Prelude.{◌≡◌};
-ghost use Rattle.relief_words.specs.StageUp.{stage_up_words};
+ghost use Rattle.relief_words.specs.StageUp.{stage_up_words, stage_up_zero};
 
 use block_words::timer_output::TimerOutputWords;
 use relief_fan_group::types::StageUp;
 
 #[repr(C)]
-#[derive(Clone, Copy, Default)]
+#[derive(Clone, Copy)]
 pub struct StageUpWords {
     pub all_fans_off: u64,
     pub pro1: [f64; 4],
@@ -36,6 +36,25 @@ impl From<StageUp> for StageUpWords {
             up_gate: u64::from(value.up_gate),
             up_tim: TimerOutputWords::from(value.up_tim),
             lat2_y: u64::from(value.lat2_y),
+        }
+    }
+}
+
+impl Default for StageUpWords {
+    ghost is_default = { λ w. w ≡ stage_up_zero };
+
+    #[tactic(auto, unfolding(crate::specs::StageUp::stage_up_zero))]
+    #[inline(always)]
+    fn default() -> Self {
+        StageUpWords {
+            all_fans_off: 0,
+            pro1: [0.0; 4],
+            up_distance: [0.0; 4],
+            or2: [0; 4],
+            all_newly_started_proven: 0,
+            up_gate: 0,
+            up_tim: TimerOutputWords::default(),
+            lat2_y: 0,
         }
     }
 }

@@ -1,3 +1,4 @@
 -- Laws that the proofs of the functions that are exported cite, and the theorem on calls one after another.
+pub mod AnswerCalls
 pub mod ReliefCalls
 pub mod Calls

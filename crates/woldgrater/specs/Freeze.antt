@@ -1,17 +1,16 @@
 -- What a caller of freeze protection gets, a call a row: its words for the answers of `freeze_row`.
-use Rattle.std.specs.Prelude.{Ok, Err}
-use Rattle.refusals.specs.Refusals.{refusal_number}
 use Rattle.freeze_protection.specs.Step.{FreezeAnswer}
 use Rattle.freeze_protection.specs.Step.{FreezeStep}
 use Rattle.freeze_words.specs.Freeze.{freeze_words}
 use Rattle.freeze_words.specs.FreezeCommands.{freeze_commands_words, freeze_commands_zero}
-use Rattle.woldgrater.specs.declared.freeze.FreezeAnswered.{FreezeAnswered}
+use Rattle.freeze_words.specs.declared.freeze_commands.FreezeCommandsWords.{FreezeCommandsWords}
+use Rattle.woldgrater.specs.declared.answered.Answered.{Answered}
 use Rattle.woldgrater.specs.declared.freeze.FreezeGiven.{FreezeGiven}
+use Rattle.woldgrater.specs.Answered.{answered}
 
--- status 0 and the commands of an accepted row; the number of a refused one's refusal, and commands that are all 0
-unfoldable pub freeze_answered : FreezeAnswer → FreezeAnswered
-freeze_answered (Ok commands) = record { status = 0; commands = freeze_commands_words commands }
-freeze_answered (Err refusal) = record { status = refusal_number refusal; commands = freeze_commands_zero }
+-- status and commands of an answer
+abbrev pub freeze_answered : FreezeAnswer → Answered FreezeCommandsWords
+freeze_answered = answered freeze_commands_words freeze_commands_zero
 
 -- a row's step as the caller gets it
 unfoldable pub freeze_given : FreezeStep → FreezeGiven

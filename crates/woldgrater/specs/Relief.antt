@@ -1,6 +1,5 @@
 -- What a caller of the relief fan group gets, a call a row: its words for the answers of `relief_row`.
-use Rattle.std.specs.Prelude.{List, Float, Ok, Err}
-use Rattle.refusals.specs.Refusals.{refusal_number}
+use Rattle.std.specs.Prelude.{List, Float}
 use Rattle.moving_average.specs.declared.lent.Integrator.{Integrator}
 use Rattle.moving_average.specs.declared.state.MovingAverageState.{MovingAverageState}
 use Rattle.relief_fan_group.specs.declared.types.ReliefState.{ReliefState}
@@ -10,9 +9,11 @@ use Rattle.relief_fan_group.specs.Lent.{lent_state}
 use Rattle.block_words.specs.Integrator.{integrator_words, integrator_of}
 use Rattle.relief_words.specs.ReliefBlocks.{relief_blocks_words, relief_blocks_of}
 use Rattle.relief_words.specs.ReliefCommands.{relief_commands_words, relief_commands_zero}
+use Rattle.relief_words.specs.declared.relief_commands.ReliefCommandsWords.{ReliefCommandsWords}
+use Rattle.woldgrater.specs.declared.answered.Answered.{Answered}
 use Rattle.woldgrater.specs.declared.relief.ReliefWords.{ReliefWords}
-use Rattle.woldgrater.specs.declared.relief.ReliefAnswered.{ReliefAnswered}
 use Rattle.woldgrater.specs.declared.relief.ReliefGiven.{ReliefGiven}
+use Rattle.woldgrater.specs.Answered.{answered}
 
 -- the window without its arrays
 abbrev pub integrator_in : MovingAverageState → Integrator
@@ -38,15 +39,14 @@ relief_memory s = memory (relief_words s) s.window.times s.window.integrals
 abbrev pub relief_in : ReliefMemory → ReliefState
 relief_in m = lent_state (integrator_of m.words.integrator) (relief_blocks_of m.words.blocks) m.times m.integrals
 
--- status 0 and the commands of an accepted row; the number of a refused one's refusal, and commands that are all 0
-unfoldable pub relief_answered : ReliefAnswer → ReliefAnswered
-relief_answered (Ok commands) = record { status = 0; commands = relief_commands_words commands }
-relief_answered (Err refusal) = record { status = refusal_number refusal; commands = relief_commands_zero }
+-- status and commands of an answer
+abbrev pub relief_answered : ReliefAnswer → Answered ReliefCommandsWords
+relief_answered = answered relief_commands_words relief_commands_zero
 
 -- what a call leaves: the memory for the next one, the status and the commands
 pub record ReliefCalled : Type 0 where
   pub left : ReliefMemory
-  pub answered : ReliefAnswered
+  pub answered : Answered ReliefCommandsWords
 
 abbrev pub relief_called : ReliefGiven → List Float → List Float → ReliefCalled
 relief_called given times integrals = record { left = memory given.state times integrals; answered = record { status = given.status; commands = given.commands } }

@@ -4,20 +4,16 @@ ghost use Rattle.std.specs.Prelude.{◌≡◌};
 ghost use Rattle.economizer_controller.specs.Step.{economizer_fresh, economizer_row};
 ghost use Rattle.econ_words.specs.Economizer.{economizer_words, economizer_of};
 ghost use Rattle.econ_words.specs.EconomizerRow.{economizer_row_of};
-ghost use Rattle.woldgrater.specs.Economizer.{economizer_given, economizer_answered};
+ghost use Rattle.woldgrater.specs.Economizer.{economizer_given};
 
+use crate::answered::Answered;
 use econ_words::economizer::EconomizerWords;
 use econ_words::economizer_commands::EconomizerCommandsWords;
 use econ_words::economizer_row::EconomizerRowWords;
 use economizer_controller::step::{economizer_fresh, economizer_row};
-use economizer_controller::types::EconomizerAnswer;
+use economizer_controller::types::{EconomizerRow, EconomizerState};
 
-// The status of a row, and the commands of an accepted one.
-#[derive(Clone, Copy)]
-pub struct EconomizerAnswered {
-    pub status: u64,
-    pub commands: EconomizerCommandsWords,
-}
+// A record for each sequence, since an export takes none that is generic.
 
 // The state after a row, its status, and the commands of an accepted one: those of a refused one are 0 and mean nothing.
 #[repr(C)]
@@ -32,42 +28,18 @@ pub struct EconomizerGiven {
 pub fn woldgrater_econ_start() -> EconomizerWords
     ensures { result ≡ economizer_words economizer_fresh }
 {
-    let fresh = economizer_fresh();
-    EconomizerWords::of(fresh)
-}
-
-// An answer's status and commands.
-#[tactic(auto, unfolding(crate::specs::Economizer::economizer_answered))]
-fn economizer_answered(answer: EconomizerAnswer) -> EconomizerAnswered
-    ensures { result ≡ economizer_answered answer }
-{
-    match answer {
-        Ok(commands) => EconomizerAnswered {
-            status: 0,
-            commands: EconomizerCommandsWords::of(commands),
-        },
-        Err(refusal) => EconomizerAnswered {
-            status: refusal.number(),
-            commands: EconomizerCommandsWords::zero(),
-        },
-    }
+    EconomizerWords::from(economizer_fresh())
 }
 
 // One row: its commands and the next state, or its refusal and the old state.
-#[tactic(auto, unfolding(crate::specs::Economizer::economizer_given))]
 pub fn woldgrater_econ_row(state: EconomizerWords, row: EconomizerRowWords) -> EconomizerGiven
     ensures { result ≡ economizer_given (economizer_row (economizer_of state) (economizer_row_of row)) }
 {
-    let held = state.value();
-    let sampled = row.value();
-    let step = economizer_row(held, sampled);
-    let next = step.state;
-    let answer = step.answer;
-    let answered = economizer_answered(answer);
-    let commands = answered.commands;
+    let step = economizer_row(EconomizerState::from(state), EconomizerRow::from(row));
+    let answered = Answered::from(step.answer);
     EconomizerGiven {
-        state: EconomizerWords::of(next),
+        state: EconomizerWords::from(step.state),
         status: answered.status,
-        commands,
+        commands: answered.commands,
     }
 }

@@ -2,12 +2,14 @@
 ghost use Rattle.std.specs.Prelude.{◌≡◌};
 ghost use Rattle.relief_fan_group.specs.Step.{relief_fresh, relief_row};
 ghost use Rattle.relief_words.specs.ReliefRow.{relief_row_of};
-ghost use Rattle.woldgrater.specs.Relief.{memory, relief_memory, relief_in, relief_answered, relief_called, relief_given};
+ghost use Rattle.woldgrater.specs.Relief.{memory, relief_memory, relief_in, relief_called, relief_given};
 
+use crate::answered::Answered;
 use block_words::integrator::IntegratorWords;
+use moving_average::lent::Integrator;
 use relief_fan_group::lent::relief_row_lent;
 use relief_fan_group::step::relief_blocks;
-use relief_fan_group::types::ReliefAnswer;
+use relief_fan_group::types::{ReliefBlocks, ReliefRow};
 use relief_words::relief_blocks::ReliefBlocksWords;
 use relief_words::relief_commands::ReliefCommandsWords;
 use relief_words::relief_row::ReliefRowWords;
@@ -19,13 +21,6 @@ use row_kinds::types::no_points;
 pub struct ReliefWords {
     pub integrator: IntegratorWords,
     pub blocks: ReliefBlocksWords,
-}
-
-// The status of a row, and the commands of an accepted one.
-#[derive(Clone, Copy)]
-pub struct ReliefAnswered {
-    pub status: u64,
-    pub commands: ReliefCommandsWords,
 }
 
 // The state after a row, its status, and the commands of an accepted one: those of a refused one are 0 and mean nothing.
@@ -43,28 +38,9 @@ pub fn woldgrater_relief_start(times: &mut [f64; 512], integrals: &mut [f64; 512
 {
     *times = [0.0; 512];
     *integrals = [0.0; 512];
-    let none = no_points();
-    let fresh = relief_blocks();
     ReliefWords {
-        integrator: IntegratorWords::of(none),
-        blocks: ReliefBlocksWords::of(fresh),
-    }
-}
-
-// An answer's status and commands.
-#[tactic(auto, unfolding(crate::specs::Relief::relief_answered))]
-fn relief_answered(answer: ReliefAnswer) -> ReliefAnswered
-    ensures { result ≡ relief_answered answer }
-{
-    match answer {
-        Ok(commands) => ReliefAnswered {
-            status: 0,
-            commands: ReliefCommandsWords::of(commands),
-        },
-        Err(refusal) => ReliefAnswered {
-            status: refusal.number(),
-            commands: ReliefCommandsWords::zero(),
-        },
+        integrator: IntegratorWords::from(no_points()),
+        blocks: ReliefBlocksWords::from(relief_blocks()),
     }
 }
 
@@ -78,23 +54,20 @@ pub fn woldgrater_relief_row(
     ensures { relief_called result times.new integrals.new
         ≡ relief_given (relief_row (relief_in (memory state times.old integrals.old)) (relief_row_of row)) }
 {
-    let words = state.integrator;
-    let block_words = state.blocks;
-    let integrator = words.value();
-    let blocks = block_words.value();
-    let sampled = row.value();
-    let step = relief_row_lent(integrator, blocks, times, integrals, sampled);
-    let following = step.integrator;
-    let next = step.blocks;
-    let answer = step.answer;
-    let answered = relief_answered(answer);
-    let commands = answered.commands;
+    let step = relief_row_lent(
+        Integrator::from(state.integrator),
+        ReliefBlocks::from(state.blocks),
+        times,
+        integrals,
+        ReliefRow::from(row),
+    );
+    let answered = Answered::from(step.answer);
     ReliefGiven {
         state: ReliefWords {
-            integrator: IntegratorWords::of(following),
-            blocks: ReliefBlocksWords::of(next),
+            integrator: IntegratorWords::from(step.integrator),
+            blocks: ReliefBlocksWords::from(step.blocks),
         },
         status: answered.status,
-        commands,
+        commands: answered.commands,
     }
 }

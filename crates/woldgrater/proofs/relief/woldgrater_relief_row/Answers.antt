@@ -2,6 +2,8 @@
 use mathlib.Core.Path.{◌∙◌}
 use Rattle.relief_fan_group.specs.Lent.{lent_state}
 use Rattle.relief_fan_group.specs.Step.{relief_row}
+use Rattle.relief_words.specs.ReliefCommands.{relief_commands_words, relief_commands_zero}
+use Rattle.woldgrater.proofs.AnswerCalls.{answered_is}
 use Rattle.woldgrater.proofs.ReliefCalls.{relief_called_lem}
 use Rattle.woldgrater.proofs.relief.woldgrater_relief_row.Goals as goal
 
@@ -9,5 +11,5 @@ pub returns : goal.returns
 returns c =
     relief_called_lem _ _ _ _
     (c.relief_row_lent-step.ensures
-    ∙ λ i. relief_row (lent_state (c.value-integrator.ensures i) (c.value-blocks.ensures i) c.args.times.now c.args.integrals.now) (c.value-sampled.ensures i))
-    _ c.of.ensures c.of-2.ensures c.relief_answered-answered.ensures
+    ∙ λ i. relief_row (lent_state (c.from.ensures i) (c.from-2.ensures i) c.args.times.now c.args.integrals.now) (c.from-3.ensures i))
+    _ c.from-4.ensures c.from-5.ensures (answered_is relief_commands_words relief_commands_zero _ _ c.from-answered.ensures)

@@ -12,8 +12,8 @@ pub returns : goal.returns
 unfolding relief_words relief_fresh moving_average_new no_points
 returns c = λ i. record {
   words = record {
-    integrator = (c.of.ensures ∙ ap integrator_words c.no_points-none.ensures) i;
-    blocks = (c.of-2.ensures ∙ ap relief_blocks_words c.relief_blocks-fresh.ensures) i;
+    integrator = (c.from.ensures ∙ ap integrator_words c.no_points.ensures) i;
+    blocks = (c.from-2.ensures ∙ ap relief_blocks_words c.relief_blocks.ensures) i;
   };
   times = relief_fresh.window.times;
   integrals = relief_fresh.window.integrals;
