@@ -35,7 +35,8 @@ pub fn woldgrater_econ_start() -> EconomizerWords
 pub fn woldgrater_econ_row(state: EconomizerWords, row: EconomizerRowWords) -> EconomizerGiven
     ensures { result ≡ economizer_given (economizer_row (economizer_of state) (economizer_row_of row)) }
 {
-    let step = economizer_row(EconomizerState::from(state), EconomizerRow::from(row));
+    let held = EconomizerState::from(state);
+    let step = economizer_row(held, EconomizerRow::from(row));
     let answered = Answered::from(step.answer);
     EconomizerGiven {
         state: EconomizerWords::from(step.state),

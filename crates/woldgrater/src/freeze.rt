@@ -34,7 +34,8 @@ pub fn woldgrater_freeze_start() -> FreezeWords
 pub fn woldgrater_freeze_row(state: FreezeWords, row: FreezeRowWords) -> FreezeGiven
     ensures { result ≡ freeze_given (freeze_row (freeze_of state) (freeze_row_of row)) }
 {
-    let step = freeze_row(FreezeState::from(state), FreezeRow::from(row));
+    let held = FreezeState::from(state);
+    let step = freeze_row(held, FreezeRow::from(row));
     let answered = Answered::from(step.answer);
     FreezeGiven {
         state: FreezeWords::from(step.state),

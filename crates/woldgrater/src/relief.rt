@@ -54,13 +54,10 @@ pub fn woldgrater_relief_row(
     ensures { relief_called result times.new integrals.new
         ≡ relief_given (relief_row (relief_in (memory state times.old integrals.old)) (relief_row_of row)) }
 {
-    let step = relief_row_lent(
-        Integrator::from(state.integrator),
-        ReliefBlocks::from(state.blocks),
-        times,
-        integrals,
-        ReliefRow::from(row),
-    );
+    let integrator = Integrator::from(state.integrator);
+    let blocks = ReliefBlocks::from(state.blocks);
+    let sampled = ReliefRow::from(row);
+    let step = relief_row_lent(integrator, blocks, times, integrals, sampled);
     let answered = Answered::from(step.answer);
     ReliefGiven {
         state: ReliefWords {

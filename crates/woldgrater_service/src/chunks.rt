@@ -6,10 +6,9 @@ ghost use Rattle.woldgrater_service.specs.Chunks.{started, stopped_in, memory, F
 
 use crate::lent::{feed_lent, finish_lent};
 use crate::room::{STATUS_LENGTH, has_room};
-use block_words::flags::flag_word;
 use reader_words::row_reader::RowReaderWords;
 use row_kinds::kind::Phase;
-use row_kinds::types::fresh_at;
+use row_kinds::types::{RowReader, fresh_at};
 
 // The reader, and the number of bytes kept of a line that has not ended.
 #[repr(C)]
@@ -40,9 +39,8 @@ pub struct Fed {
 pub fn woldgrater_start() -> State
     ensures { result ≡ started }
 {
-    let reader = fresh_at(Phase::First);
     State {
-        reader: RowReaderWords::of(reader),
+        reader: RowReaderWords::from(fresh_at(Phase::First)),
         kept: 0,
     }
 }
@@ -62,13 +60,11 @@ fn feed_chunk(
         (memory result.state line.new times.new integrals.new) out.new
         result.sent }
 {
-    let words = state.reader;
-    let reader = words.value();
+    let reader = RowReader::from(state.reader);
     let fed = feed_lent(chunk, out, line, times, integrals, reader, state.kept);
-    let next = fed.reader;
     ChunkFed {
         state: State {
-            reader: RowReaderWords::of(next),
+            reader: RowReaderWords::from(fed.reader),
             kept: fed.len,
         },
         sent: fed.sent,
@@ -76,13 +72,11 @@ fn feed_chunk(
 }
 
 // Whether the reader of a state has stopped.
+#[tactic(auto, unfolding(block_words::specs::Flags::flag_word))]
 fn stopped_word(state: State) -> u64
     ensures { result ≡ flag_word (stopped_in state) }
 {
-    let reader = state.reader;
-    let words = reader.phase;
-    let phase = words.value();
-    flag_word(phase.stopped())
+    u64::from(Phase::from(state.reader.phase).stopped())
 }
 
 // Feeds the next chunk of a row file: the answers to the lines that end in it, at the start of out; or usize::MAX, and nothing changed, where out is too
@@ -122,9 +116,7 @@ fn end_file(out: &mut [u8], line: &[u8; 256], state: State) -> usize
     requires { status_length ≤ length out.old }
     ensures { EndedBy state line.now out.old out.new result }
 {
-    let words = state.reader;
-    let reader = words.value();
-    finish_lent(out, line, reader, state.kept)
+    finish_lent(out, line, RowReader::from(state.reader), state.kept)
 }
 
 // Ends a row file: what is said of bytes after the last newline, or of a file without a first line, at the start of out; or usize::MAX, and nothing

@@ -10,12 +10,13 @@ ghost use Rattle.econ_words.specs.EconomizerRow.{economizer_row_of};
 ghost use Rattle.woldgrater_service.specs.Line.{LineLeft};
 ghost use Rattle.woldgrater_service.specs.Shown.{economizer_shown};
 
-use crate::line::{LineGiven, line_given};
+use crate::line::LineGiven;
 use econ_lines::econ::write_econ_row;
 use econ_words::economizer::EconomizerWords;
 use econ_words::economizer_row::EconomizerRowWords;
 use econ_words::economizer_signals::EconomizerSignalsWords;
 use economizer_controller::step::economizer_signals;
+use economizer_controller::types::{EconomizerRow, EconomizerState};
 use economizer_controller::verdict::economizer_verdict;
 
 // The status of a row, and what the commands of an accepted one are worked from.
@@ -32,20 +33,19 @@ pub fn woldgrater_econ_signals(state: EconomizerWords, row: EconomizerRowWords) 
     ensures { result ≡ economizer_shown (economizer_verdict (economizer_of state) (economizer_row_of row))
         (economizer_signals (economizer_of state) (economizer_row_of row)) }
 {
-    let held = state.value();
-    let sampled = row.value();
-    let verdict = economizer_verdict(held, sampled);
-    match verdict {
+    let held = EconomizerState::from(state);
+    let sampled = EconomizerRow::from(row);
+    match economizer_verdict(held, sampled) {
         Ok(()) => {
             let signals = economizer_signals(held, sampled);
             EconomizerShown {
                 status: 0,
-                signals: EconomizerSignalsWords::of(signals),
+                signals: EconomizerSignalsWords::from(signals),
             }
         }
         Err(refusal) => EconomizerShown {
             status: refusal.number(),
-            signals: EconomizerSignalsWords::zero(),
+            signals: EconomizerSignalsWords::default(),
         },
     }
 }
@@ -56,7 +56,5 @@ pub fn woldgrater_econ_line(row: EconomizerRowWords, out: &mut [u8]) -> LineGive
     ensures line_left { LineLeft (write_row econ_kind (economizer_row_of row) out.old 0) result out.new }
     ensures reads_back { ReadsBack econ_kind (economizer_row_of row) }
 {
-    let sampled = row.value();
-    let written = write_econ_row(out, 0, sampled);
-    line_given(written)
+    LineGiven::from(write_econ_row(out, 0, EconomizerRow::from(row)))
 }

@@ -10,10 +10,11 @@ ghost use Rattle.freeze_words.specs.FreezeRow.{freeze_row_of};
 ghost use Rattle.woldgrater_service.specs.Line.{LineLeft};
 ghost use Rattle.woldgrater_service.specs.Shown.{freeze_shown};
 
-use crate::line::{LineGiven, line_given};
+use crate::line::LineGiven;
 use freeze_lines::freeze::write_freeze_row;
 use freeze_protection::left::freeze_left;
 use freeze_protection::signals::freeze_signals;
+use freeze_protection::types::{FreezeRow, FreezeState};
 use freeze_protection::verdict::freeze_verdict;
 use freeze_words::freeze::FreezeWords;
 use freeze_words::freeze_left::FreezeLeftWords;
@@ -38,23 +39,21 @@ pub fn woldgrater_freeze_signals(state: FreezeWords, row: FreezeRowWords) -> Fre
         (freeze_left (freeze_of state) (freeze_signals (freeze_of state) (freeze_row_of row)))
         (freeze_signals (freeze_of state) (freeze_row_of row)) }
 {
-    let held = state.value();
-    let sampled = row.value();
-    let verdict = freeze_verdict(held, sampled);
-    match verdict {
+    let held = FreezeState::from(state);
+    let sampled = FreezeRow::from(row);
+    match freeze_verdict(held, sampled) {
         Ok(()) => {
             let signals = freeze_signals(held, sampled);
-            let left = freeze_left(held, signals);
             FreezeShown {
                 status: 0,
-                signals: FreezeSignalsWords::of(signals),
-                left: FreezeLeftWords::of(left),
+                signals: FreezeSignalsWords::from(signals),
+                left: FreezeLeftWords::from(freeze_left(held, signals)),
             }
         }
         Err(refusal) => FreezeShown {
             status: refusal.number(),
-            signals: FreezeSignalsWords::zero(),
-            left: FreezeLeftWords::zero(),
+            signals: FreezeSignalsWords::default(),
+            left: FreezeLeftWords::default(),
         },
     }
 }
@@ -65,7 +64,5 @@ pub fn woldgrater_freeze_line(row: FreezeRowWords, out: &mut [u8]) -> LineGiven
     ensures line_left { LineLeft (write_row freeze_kind (freeze_row_of row) out.old 0) result out.new }
     ensures reads_back { ReadsBack freeze_kind (freeze_row_of row) }
 {
-    let sampled = row.value();
-    let written = write_freeze_row(out, 0, sampled);
-    line_given(written)
+    LineGiven::from(write_freeze_row(out, 0, FreezeRow::from(row)))
 }

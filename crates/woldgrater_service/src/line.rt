@@ -12,18 +12,20 @@ pub struct LineGiven {
     pub len: usize,
 }
 
-#[tactic(auto, unfolding(crate::specs::Line::line_given))]
-pub fn line_given(written: RowWritten) -> LineGiven
-    ensures { result ≡ line_given written }
-{
-    match written {
-        RowWritten::Line(end) => LineGiven {
-            status: 0,
-            len: end,
-        },
-        RowWritten::Refused(refusal) => LineGiven {
-            status: refusal.number(),
-            len: 0,
-        },
+impl From<RowWritten> for LineGiven {
+    ghost from_gives = { λ written given. given ≡ line_given written };
+
+    #[tactic(auto, unfolding(crate::specs::Line::line_given))]
+    fn from(written: RowWritten) -> Self {
+        match written {
+            RowWritten::Line(end) => LineGiven {
+                status: 0,
+                len: end,
+            },
+            RowWritten::Refused(refusal) => LineGiven {
+                status: refusal.number(),
+                len: 0,
+            },
+        }
     }
 }

@@ -1,6 +1,5 @@
 // The relief fan group: what a row's commands would be worked from, for a display or a logger, the alarms that a state remembers, and the line of a row.
 ghost use Rattle.std.specs.Prelude.{◌≡◌};
-ghost use Rattle.relief_fan_group.specs.Lent.{lent_state};
 ghost use Rattle.relief_fan_group.specs.Remembered.{relief_alarm};
 ghost use Rattle.row_writer.specs.Writing.{write_row, ReadsBack};
 ghost use Rattle.relief_lines.specs.Relief.{relief_kind};
@@ -10,7 +9,7 @@ ghost use Rattle.woldgrater.specs.Relief.{memory, relief_in};
 ghost use Rattle.woldgrater_service.specs.Line.{LineLeft};
 ghost use Rattle.woldgrater_service.specs.Shown.{relief_shown, alarm_given};
 
-use crate::line::{LineGiven, line_given};
+use crate::line::LineGiven;
 use moving_average::lent::Integrator;
 use relief_fan_group::left::relief_left;
 use relief_fan_group::remembered::relief_alarm;
@@ -33,42 +32,8 @@ pub struct ReliefShown {
     pub left: ReliefLeftWords,
 }
 
-// A row's refusal, or the signals that its commands are worked from and what is left on its timers.
-#[tactic(auto, unfolding(crate::specs::Shown::relief_shown, relief_fan_group::specs::Step::signals_at, crate::specs::Shown::relief_shown_by))]
-fn relief_shown<'a>(
-    times: &'a [f64; 512],
-    integrals: &'a [f64; 512],
-    integrator: Integrator,
-    blocks: ReliefBlocks,
-    row: ReliefRow,
-) -> ReliefShown
-    ensures { result ≡ relief_shown (lent_state integrator blocks times.now integrals.now)
-        row }
-{
-    let time = row.time;
-    let pressure = row.pressure;
-    let full = integrator.is_full(times, time);
-    let verdict = relief_verdict(blocks, row, full);
-    match verdict {
-        Ok(()) => {
-            let average = integrator.output(times, integrals, time, pressure);
-            let signals = relief_signals(blocks, row, average);
-            let left = relief_left(blocks, signals);
-            ReliefShown {
-                status: 0,
-                signals: ReliefSignalsWords::of(signals),
-                left: ReliefLeftWords::of(left),
-            }
-        }
-        Err(refusal) => ReliefShown {
-            status: refusal.number(),
-            signals: ReliefSignalsWords::zero(),
-            left: ReliefLeftWords::zero(),
-        },
-    }
-}
-
 // What the commands of a row would be worked from, and what is left on each timer. The state does not move.
+#[tactic(auto, unfolding(crate::specs::Shown::relief_shown, relief_fan_group::specs::Step::signals_at, crate::specs::Shown::relief_shown_by))]
 pub fn woldgrater_relief_signals<'a>(
     times: &'a [f64; 512],
     integrals: &'a [f64; 512],
@@ -78,12 +43,26 @@ pub fn woldgrater_relief_signals<'a>(
     ensures { result ≡ relief_shown (relief_in (memory state times.now integrals.now))
         (relief_row_of row) }
 {
-    let words = state.integrator;
-    let block_words = state.blocks;
-    let integrator = words.value();
-    let blocks = block_words.value();
-    let sampled = row.value();
-    relief_shown(times, integrals, integrator, blocks, sampled)
+    let integrator = Integrator::from(state.integrator);
+    let blocks = ReliefBlocks::from(state.blocks);
+    let sampled = ReliefRow::from(row);
+    let full = integrator.is_full(times, sampled.time);
+    match relief_verdict(blocks, sampled, full) {
+        Ok(()) => {
+            let average = integrator.output(times, integrals, sampled.time, sampled.pressure);
+            let signals = relief_signals(blocks, sampled, average);
+            ReliefShown {
+                status: 0,
+                signals: ReliefSignalsWords::from(signals),
+                left: ReliefLeftWords::from(relief_left(blocks, signals)),
+            }
+        }
+        Err(refusal) => ReliefShown {
+            status: refusal.number(),
+            signals: ReliefSignalsWords::default(),
+            left: ReliefLeftWords::default(),
+        },
+    }
 }
 
 // The alarm of a fan at the last accepted row, 0 before any, and 1 where there is such a fan: for another index both are 0.
@@ -94,24 +73,16 @@ pub struct AlarmGiven {
     pub alarm: i64,
 }
 
-#[tactic(auto, unfolding(crate::specs::Shown::alarm_given))]
-fn alarm_given(remembered: Option<i64>) -> AlarmGiven
-    ensures { result ≡ alarm_given remembered }
-{
-    match remembered {
-        Some(alarm) => AlarmGiven { known: 1, alarm },
-        None => AlarmGiven { known: 0, alarm: 0 },
-    }
-}
-
 // What a state remembers of the alarm of a fan, by its index from 0 to 3.
+#[tactic(auto, unfolding(crate::specs::Shown::alarm_given))]
 pub fn woldgrater_relief_alarm(state: ReliefWords, fan: usize) -> AlarmGiven
     ensures { result ≡ alarm_given (relief_alarm (relief_blocks_of state.blocks) fan) }
 {
-    let words = state.blocks;
-    let blocks = words.value();
-    let remembered = relief_alarm(blocks, fan);
-    alarm_given(remembered)
+    let remembered = relief_alarm(ReliefBlocks::from(state.blocks), fan);
+    remembered.map_or(
+        AlarmGiven { known: 0, alarm: 0 },
+        |alarm| AlarmGiven { known: 1, alarm },
+    )
 }
 
 // Writes the line of a row, with its newline, at the start of out: refused with 1 where a number is not finite, or else with 10 where it does not fit, and no
@@ -120,7 +91,5 @@ pub fn woldgrater_relief_line(row: ReliefRowWords, out: &mut [u8]) -> LineGiven
     ensures line_left { LineLeft (write_row relief_kind (relief_row_of row) out.old 0) result out.new }
     ensures reads_back { ReadsBack relief_kind (relief_row_of row) }
 {
-    let sampled = row.value();
-    let written = write_relief_row(out, 0, sampled);
-    line_given(written)
+    LineGiven::from(write_relief_row(out, 0, ReliefRow::from(row)))
 }

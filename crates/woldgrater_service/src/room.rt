@@ -12,12 +12,7 @@ pub const BYTES_BEFORE: usize = 257;
 pub fn has_room(out: usize, bytes: usize) -> bool
     ensures { result ≡ leb (room bytes) out }
 {
-    let lines = out / STATUS_LENGTH;
-    if lines < BYTES_BEFORE {
-        return false;
-    }
-    if lines - BYTES_BEFORE < bytes {
-        return false;
-    }
-    true
+    (out / STATUS_LENGTH)
+        .checked_sub(BYTES_BEFORE)
+        .is_some_and(|lines| bytes <= lines)
 }

@@ -11,5 +11,5 @@ pub returns : goal.returns
 unfolding economizer_given
 returns c =
     let a = answered_is economizer_commands_words economizer_commands_zero c.economizer_row-step.result.answer c.from-answered.result c.from-answered.ensures in
-    (λ i. record { state = c.from-3.ensures i; status = (a i).status; commands = (a i).commands })
-    ∙ ap economizer_given (c.economizer_row-step.ensures ∙ λ i. economizer_row (c.from.ensures i) (c.from-2.ensures i))
+    (λ i. record { state = c.from-2.ensures i; status = (a i).status; commands = (a i).commands })
+    ∙ ap economizer_given (c.economizer_row-step.ensures ∙ λ i. economizer_row (c.from-held.ensures i) (c.from.ensures i))

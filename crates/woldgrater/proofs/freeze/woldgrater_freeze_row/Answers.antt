@@ -10,5 +10,5 @@ pub returns : goal.returns
 unfolding freeze_given
 returns c =
     let a = answered_is freeze_commands_words freeze_commands_zero c.freeze_row-step.result.answer c.from-answered.result c.from-answered.ensures in
-    (λ i. record { state = c.from-3.ensures i; status = (a i).status; commands = (a i).commands })
-    ∙ ap freeze_given (c.freeze_row-step.ensures ∙ λ i. freeze_row (c.from.ensures i) (c.from-2.ensures i))
+    (λ i. record { state = c.from-2.ensures i; status = (a i).status; commands = (a i).commands })
+    ∙ ap freeze_given (c.freeze_row-step.ensures ∙ λ i. freeze_row (c.from-held.ensures i) (c.from.ensures i))

@@ -11,5 +11,5 @@ pub returns : goal.returns
 returns c =
     relief_called_lem _ _ _ _
     (c.relief_row_lent-step.ensures
-    ∙ λ i. relief_row (lent_state (c.from.ensures i) (c.from-2.ensures i) c.args.times.now c.args.integrals.now) (c.from-3.ensures i))
-    _ c.from-4.ensures c.from-5.ensures (answered_is relief_commands_words relief_commands_zero _ _ c.from-answered.ensures)
+    ∙ λ i. relief_row (lent_state (c.from-integrator.ensures i) (c.from-blocks.ensures i) c.args.times.now c.args.integrals.now) (c.from-sampled.ensures i))
+    _ c.from.ensures c.from-2.ensures (answered_is relief_commands_words relief_commands_zero _ _ c.from-answered.ensures)
