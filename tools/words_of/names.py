@@ -138,7 +138,7 @@ class Names:
             return None
         if one == 'bool':
             if declared.array(part):
-                return '{}.map(u64::from)' if what == 'of' else '{}.map(|word| word != 0)'
+                return 'array::from_fn(|i| u64::from({}[i]))' if what == 'of' else 'array::from_fn(|i| {}[i] != 0)'
             return 'u64::from({})' if what == 'of' else '{} != 0'
         kind = self.types[one]
         if declared.array(part):

@@ -4,6 +4,7 @@ ghost use Rattle.block_words.specs.Threshold.{threshold_words, threshold_of};
 
 use crate::threshold_mode::ThresholdModeWords;
 use reals::threshold::{ThresholdMode, ThresholdState};
+use std::array;
 
 #[repr(C)]
 #[derive(Clone, Copy)]
@@ -48,12 +49,12 @@ impl From<ThresholdWords> for ThresholdState {
 pub fn threshold_words_of_four(values: [ThresholdState; 4]) -> [ThresholdWords; 4]
     ensures { result ≡ map threshold_words values }
 {
-    values.map(ThresholdWords::from)
+    array::from_fn(|i| ThresholdWords::from(values[i]))
 }
 
 #[inline(always)]
 pub fn threshold_values_of_four(words: [ThresholdWords; 4]) -> [ThresholdState; 4]
     ensures { result ≡ map threshold_of words }
 {
-    words.map(ThresholdState::from)
+    array::from_fn(|i| ThresholdState::from(words[i]))
 }

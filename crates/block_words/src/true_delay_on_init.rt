@@ -4,6 +4,7 @@ ghost use Rattle.block_words.specs.TrueDelayOnInit.{true_delay_on_init_words, tr
 
 use crate::seen::SeenWords;
 use logical::true_delay_on_init::TrueDelayOnInitState;
+use std::array;
 
 #[repr(C)]
 #[derive(Clone, Copy)]
@@ -47,7 +48,7 @@ pub fn true_delay_on_init_words_of_four(
 ) -> [TrueDelayOnInitWords; 4]
     ensures { result ≡ map true_delay_on_init_words values }
 {
-    values.map(TrueDelayOnInitWords::from)
+    array::from_fn(|i| TrueDelayOnInitWords::from(values[i]))
 }
 
 #[inline(always)]
@@ -56,5 +57,5 @@ pub fn true_delay_on_init_values_of_four(
 ) -> [TrueDelayOnInitState; 4]
     ensures { result ≡ map true_delay_on_init_of words }
 {
-    words.map(TrueDelayOnInitState::from)
+    array::from_fn(|i| TrueDelayOnInitState::from(words[i]))
 }

@@ -4,6 +4,7 @@ ghost use Rattle.relief_words.specs.DamperEnable.{damper_enable_words, damper_en
 
 use block_words::timer_output::TimerOutputWords;
 use relief_fan_group::types::DamperEnable;
+use std::array;
 
 #[repr(C)]
 #[derive(Clone, Copy)]
@@ -20,7 +21,7 @@ impl From<DamperEnable> for DamperEnableWords {
     #[tactic(auto, unfolding(crate::specs::DamperEnable::damper_enable_words, block_words::specs::Flags::flag_word))]
     #[inline(always)]
     fn from(value: DamperEnable) -> Self {
-        let ena_dam = value.ena_dam.map(u64::from);
+        let ena_dam = array::from_fn(|i| u64::from(value.ena_dam[i]));
         DamperEnableWords {
             damper_open: u64::from(value.damper_open),
             damper_close_request: u64::from(value.damper_close_request),

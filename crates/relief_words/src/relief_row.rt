@@ -3,6 +3,7 @@ ghost use Rattle.std.specs.Prelude.{◌≡◌};
 ghost use Rattle.relief_words.specs.ReliefRow.{relief_row_of};
 
 use relief_fan_group::types::ReliefRow;
+use std::array;
 
 #[repr(C)]
 #[derive(Clone, Copy)]
@@ -20,9 +21,9 @@ impl From<ReliefRowWords> for ReliefRow {
     #[tactic(auto, unfolding(crate::specs::ReliefRow::relief_row_of, block_words::specs::Flags::word_flag))]
     #[inline(always)]
     fn from(words: ReliefRowWords) -> Self {
-        let supply = words.supply.map(|word| word != 0);
+        let supply = array::from_fn(|i| words.supply[i] != 0);
         let alarm = words.alarm;
-        let proof = words.proof.map(|word| word != 0);
+        let proof = array::from_fn(|i| words.proof[i] != 0);
         ReliefRow {
             time: words.time,
             supply,

@@ -4,6 +4,7 @@ ghost use Rattle.relief_words.specs.StageDown.{stage_down_words, stage_down_zero
 
 use block_words::timer_output::TimerOutputWords;
 use relief_fan_group::types::StageDown;
+use std::array;
 
 #[repr(C)]
 #[derive(Clone, Copy)]
@@ -26,8 +27,8 @@ impl From<StageDown> for StageDownWords {
     fn from(value: StageDown) -> Self {
         let pro2 = value.pro2;
         let down_distance = value.down_distance;
-        let xor = value.xor.map(u64::from);
-        let not5 = value.not5.map(u64::from);
+        let xor = array::from_fn(|i| u64::from(value.xor[i]));
+        let not5 = array::from_fn(|i| u64::from(value.not5[i]));
         StageDownWords {
             pro2,
             down_distance,

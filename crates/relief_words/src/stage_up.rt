@@ -4,6 +4,7 @@ ghost use Rattle.relief_words.specs.StageUp.{stage_up_words, stage_up_zero};
 
 use block_words::timer_output::TimerOutputWords;
 use relief_fan_group::types::StageUp;
+use std::array;
 
 #[repr(C)]
 #[derive(Clone, Copy)]
@@ -26,7 +27,7 @@ impl From<StageUp> for StageUpWords {
     fn from(value: StageUp) -> Self {
         let pro1 = value.pro1;
         let up_distance = value.up_distance;
-        let or2 = value.or2.map(u64::from);
+        let or2 = array::from_fn(|i| u64::from(value.or2[i]));
         StageUpWords {
             all_fans_off: u64::from(value.all_fans_off),
             pro1,
