@@ -16,7 +16,7 @@ ECON = [
     ('{freeze_words', '{economizer_words'),
     (' freeze_words ', ' economizer_words '),
     ('freeze_words', 'econ_words'),
-    ('write_freeze_row', 'write_econ_row'),
+    ('FreezeLines', 'EconLines'),
     ('freeze_kind', 'econ_kind'),
     ('woldgrater_freeze', 'woldgrater_econ'),
     ('Freeze protection', 'The economizer'),

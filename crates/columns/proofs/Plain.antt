@@ -9,6 +9,7 @@ use lib.ListN.{replicate}
 use borrow.Author.Tests.{ne_eqb}
 use Rattle.columns.specs.Column.{space, pad, text, column}
 use Rattle.columns.specs.Line.{newline}
+use Rattle.columns.specs.declared.forms.Form.{Form}
 use Rattle.columns.specs.Forms.{is_negative, magnitude, word_column, line_of}
 use Rattle.columns.proofs.Inverse.{both}
 
@@ -49,7 +50,7 @@ plain_column true n = plain_text 45 refl 21 n
 plain_column false n = plain_text 32 refl 21 n
 
 -- in the line of any words
-pub plain_line : (forms words : List ℕ) → plain (line_of forms words) ≡ true
+pub plain_line : (forms : List Form) (words : List ℕ) → plain (line_of forms words) ≡ true
 unfolding line_of word_column
 plain_line [] words = refl
 plain_line (form ∷ forms) [] = refl

@@ -4,40 +4,43 @@ use mathlib.Core.Path.{◌≡◌, refl, sym, ap, ◌∙◌}
 use mathlib.Core.List.{List}
 use mathlib.Core.Bool.{Bool, true, false, cond, ◌&&◌, true≢false}
 use native.Mathlib.Omega.{arith}
-use lib.Dec.{ltb, leb, eqb}
+use lib.Dec.{ltb, leb}
 use lib.ListN.{length}
 use lib.IntN.{ℤ, pos, negsuc}
 use mir.ValLaws.{to_z_pos, to_z-neg}
 use mir.Syntax.{w64}
 use lib.Ieee.{Float, nan, inf, fin, binary64, to_bits, is_nan}
-use borrow.Author.Tests.{ltb-true, ltb-false, leb-true, leb-false, eqb-true, lt-ltb, le-leb, lt-leb, eq-eqb}
+use borrow.Author.Tests.{ltb-true, ltb-false, leb-true, leb-false, lt-ltb, le-leb, lt-leb}
 use Rattle.columns.specs.Column.{column}
 use Rattle.std.specs.Prelude.{Some, None}
+use Rattle.std.specs.Option.{is_some, unwrap_or}
 use Rattle.columns.specs.Scan.{same, decimal, has_minus, limit, number, scan}
 use Rattle.std.specs.Int.{cast_signed, cast_unsigned}
 use Rattle.columns.specs.Word.{half, last_word, word_signed, signed_word}
-use Rattle.columns.specs.Forms.{float, yes_no, signed, is_word, is_negative, magnitude, word_column, word_in, no_word, a_word, read_word, largest}
+use Rattle.columns.specs.declared.forms.Form.{Form}
+use Rattle.columns.specs.declared.forms.Form.TheVariants as variant
+use Rattle.columns.specs.Forms.{is_yes_no, is_signed, is_word, is_negative, magnitude, word_column, word_in, read_word, largest}
 use Rattle.columns.proofs.Scanning.{by_test}
 use Rattle.columns.proofs.Inverse.{both, same_refl, same_eq, column_decimal, column_minus, length_column, scan_column, scan_was}
 
 -- ---- a word and its column
 
-pub word_small : (form w : ℕ) → is_word form w ≡ true → w < limit
+pub word_small : (form : Form) (w : ℕ) → is_word form w ≡ true → w < limit
 unfolding is_word
 word_small form w =
-    by_test (λ (k : ℕ). ltb w k ≡ true → w < limit) (eqb form yes_no) 2 limit (λ _ e. omega (arith, ltb-true w 2 e)) (λ _ e. ltb-true w limit e)
+    by_test (λ (k : ℕ). ltb w k ≡ true → w < limit) (is_yes_no form) 2 limit (λ _ e. omega (arith, ltb-true w 2 e)) (λ _ e. ltb-true w limit e)
 
-magnitude_small : (form w : ℕ) → w < limit → magnitude form w < limit
+magnitude_small : (form : Form) (w : ℕ) → w < limit → magnitude form w < limit
 magnitude_small form w h =
     by_test (λ (k : ℕ). k < limit) (is_negative form w) (limit - w) w
-    (λ e. omega (arith, leb-true half w (both (eqb form signed) (leb half w) e).1))
+    (λ e. omega (arith, leb-true half w (both (is_signed form) (leb half w) e).1))
     (λ _. h)
 
-in_column : (form w : ℕ) → w < limit → word_in form (word_column form w) ≡ w
+in_column : (form : Form) (w : ℕ) → w < limit → word_in form (word_column form w) ≡ w
 unfolding word_column
 in_column form w h =
     rw (column_minus (is_negative form w) (magnitude form w) (magnitude_small form w h), column_decimal (is_negative form w) (magnitude form w) (magnitude_small form w h))
-    (go (eqb form signed) (leb half w))
+    (go (is_signed form) (leb half w))
   where
     go : (s l : Bool) → cond (s && (s && l)) (limit - cond (s && l) (limit - w) w) (cond (s && l) (limit - w) w) ≡ w
     go true true = omega arith
@@ -45,15 +48,15 @@ in_column form w h =
     go false l = refl
 
 -- the column of a word is read as it
-pub read_word_back : (form w : ℕ) → is_word form w ≡ true → read_word form (word_column form w) ≡ a_word w
+pub read_word_back : (form : Form) (w : ℕ) → is_word form w ≡ true → read_word form (word_column form w) ≡ Some w
 unfolding read_word
 read_word_back form w h = rw (in_column form w (word_small form w h)) (simp (same_refl (word_column form w), h))
 
 -- and a column that is read is that of its word
-pub read_word_was : (form : ℕ) (c : List ℕ) → (read_word form c).good ≡ true → (c ≡ word_column form (read_word form c).word) × (is_word form (read_word form c).word ≡ true)
+pub read_word_was : (form : Form) (c : List ℕ) → is_some (read_word form c) ≡ true → (c ≡ word_column form (unwrap_or (read_word form c) 0)) × (is_word form (unwrap_or (read_word form c) 0) ≡ true)
 unfolding read_word
 read_word_was form c =
-    by_test (λ r. r.good ≡ true → (c ≡ word_column form r.word) × (is_word form r.word ≡ true)) (same c (word_column form w) && is_word form w) (a_word w) no_word
+    by_test (λ r. is_some r ≡ true → (c ≡ word_column form (unwrap_or r 0)) × (is_word form (unwrap_or r 0) ≡ true)) (same c (word_column form w) && is_word form w) (Some w) None
     (λ t _.
     let b = both (same c (word_column form w)) (is_word form w) t in
     (same_eq c _ b.0, b.1))
@@ -62,16 +65,16 @@ read_word_was form c =
     w : ℕ
     w = word_in form c
 
-pub length_word : (form w : ℕ) → length (word_column form w) ≡ 21
+pub length_word : (form : Form) (w : ℕ) → length (word_column form w) ≡ 21
 unfolding word_column
 length_word form w = length_column (is_negative form w) (magnitude form w)
 
 -- ---- by the number that stands in a column
 
-no_word_for : (form : ℕ) (c : List ℕ) → ((w : ℕ) → is_word form w ≡ true → c ≡ word_column form w → ⊥) → no_word ≡ read_word form c
+no_word_for : (form : Form) (c : List ℕ) → ((w : ℕ) → is_word form w ≡ true → c ≡ word_column form w → ⊥) → None ≡ read_word form c
 unfolding read_word
 no_word_for form c h =
-    by_test (λ r. no_word ≡ r) (same c (word_column form w) && is_word form w) (a_word w) no_word
+    by_test (λ r. None ≡ r) (same c (word_column form w) && is_word form w) (Some w) None
     (λ t.
     let b = both (same c (word_column form w)) (is_word form w) t in
     absurd (h w b.1 (same_eq c _ b.0)))
@@ -80,7 +83,7 @@ no_word_for form c h =
     w : ℕ
     w = word_in form c
 
-module _ (form n : ℕ) (small : n < limit) where
+module _ (form : Form) (n : ℕ) (small : n < limit) where
   -- the sign and the number in the column of a word
   column_is : (minus : Bool) (w : ℕ) → is_word form w ≡ true → column minus n ≡ word_column form w → (minus ≡ is_negative form w) × (n ≡ magnitude form w)
   unfolding word_column
@@ -91,31 +94,31 @@ module _ (form n : ℕ) (small : n < limit) where
       )
 
   -- after a minus: a signed number, from 1 to 2^63
-  pub no_minus_word : ((form ≡ signed) → 0 < n → n ≤ half → ⊥) → no_word ≡ read_word form (column true n)
+  pub no_minus_word : (is_signed form ≡ true → 0 < n → n ≤ half → ⊥) → None ≡ read_word form (column true n)
   no_minus_word h =
       no_word_for form (column true n) (λ w is e.
       let c = column_is true w is e in
-      let b = both (eqb form signed) (leb half w) (sym c.0) in
+      let b = both (is_signed form) (leb half w) (sym c.0) in
       let m : n ≡ limit - w = c.1 ∙ ap (λ (t : Bool). cond t (limit - w) w) (sym c.0) in
-      h (eqb-true form signed b.0) (omega (arith, word_small form w is)) (omega (arith, leb-true half w b.1)))
+      h b.0 (omega (arith, word_small form w is)) (omega (arith, leb-true half w b.1)))
 
   -- with no minus: a number up to the largest of the form
-  pub no_plain_word : largest form < n → no_word ≡ read_word form (column false n)
+  pub no_plain_word : largest form < n → None ≡ read_word form (column false n)
   unfolding is_word largest
   no_plain_word h =
       no_word_for form (column false n) (λ w is e.
       let c = column_is false w is e in
       let m : n ≡ w = c.1 ∙ ap (λ (t : Bool). cond t (limit - w) w) (sym c.0) in
-      by (eqb form yes_no) (eqb form signed) w m is c.0 h)
+      by (is_yes_no form) (is_signed form) w m is c.0 h)
     where
       by : (y s : Bool) (w : ℕ) → n ≡ w → ltb w (cond y 2 limit) ≡ true → false ≡ s && leb half w → cond y 1 (cond s 9223372036854775807 last_word) < n → ⊥
       by true s w m t _ l = omega (arith, ltb-true w 2 t)
       by false true w m t f l = omega (arith, leb-false half w (sym f))
       by false false w m t f l = omega (arith, ltb-true w limit t)
 
-  pub plain_word : n ≤ largest form → a_word n ≡ read_word form (column false n)
+  pub plain_word : n ≤ largest form → Some n ≡ read_word form (column false n)
   unfolding is_word largest word_column
-  plain_word h = sym (ap (λ (c : List ℕ). read_word form c) (rw plain) ∙ read_word_back form n (word_there (eqb form yes_no) (eqb form signed) h))
+  plain_word h = sym (ap (λ (c : List ℕ). read_word form c) (rw plain) ∙ read_word_back form n (word_there (is_yes_no form) (is_signed form) h))
     where
       word_there : (y s : Bool) → n ≤ cond y 1 (cond s 9223372036854775807 last_word) → ltb n (cond y 2 limit) ≡ true
       word_there true s l = lt-ltb n 2 (omega arith)
@@ -127,18 +130,13 @@ module _ (form n : ℕ) (small : n < limit) where
       low false true l = lt-leb half n (omega arith)
 
       plain : is_negative form n ≡ false
-      plain = low (eqb form yes_no) (eqb form signed) h
-
--- each number is one of a float
-pub largest_float : (form : ℕ) → form ≡ float → largest form ≡ last_word
-unfolding largest
-largest_float form e = ap (λ (f : ℕ). cond (eqb f yes_no) 1 (cond (eqb f signed) 9223372036854775807 last_word)) e
+      plain = low (is_yes_no form) (is_signed form) h
 
 -- by what is scanned
-pub scanned_word : (form : ℕ) (c : List ℕ) (minus b : Bool) (n : ℕ) → scan c ≡ Some (number minus n) → minus ≡ b → read_word form (column b n) ≡ read_word form c
+pub scanned_word : (form : Form) (c : List ℕ) (minus b : Bool) (n : ℕ) → scan c ≡ Some (number minus n) → minus ≡ b → read_word form (column b n) ≡ read_word form c
 scanned_word form c minus b n e m = ap (λ (x : List ℕ). read_word form x) (sym (scan_was c b n (e ∙ ap (λ (x : Bool). Some (number x n)) m)).0)
 
-pub no_scanned_word : (form : ℕ) (c : List ℕ) → scan c ≡ None → no_word ≡ read_word form c
+pub no_scanned_word : (form : Form) (c : List ℕ) → scan c ≡ None → None ≡ read_word form c
 unfolding word_column
 no_scanned_word form c e =
     no_word_for form c (λ w is d.
@@ -147,29 +145,36 @@ no_scanned_word form c e =
     let z : ◌≡◌ {A = ℕ} 0 1 = cc in
     omega arith)
 
+-- no signed number is a yes or no
+no_yes : (form : Form) → is_signed form ≡ true → is_yes_no form ≡ false
+no_yes variant.Float e = refl
+no_yes variant.YesNo e = sym e
+no_yes variant.Signed e = refl
+no_yes variant.Unsigned e = refl
+
 -- the word of a number after a minus
-pub minus_word : (form n w : ℕ) → form ≡ signed → 0 < n → n ≤ half → w ≡ limit - n → a_word w ≡ read_word form (column true n)
+pub minus_word : (form : Form) (n w : ℕ) → is_signed form ≡ true → 0 < n → n ≤ half → w ≡ limit - n → Some w ≡ read_word form (column true n)
 unfolding is_word word_column
 minus_word form n w e low high m =
     let l : half ≤ w = omega arith in
     let d : n ≡ limit - w = omega arith in
-    let there : is_word form w ≡ true = ap (λ (f : ℕ). ltb w (cond (eqb f yes_no) 2 limit)) e ∙ lt-ltb w limit (omega arith) in
-    let is : column true n ≡ word_column form w = rw (eq-eqb form signed e, le-leb half w l) (ap (λ (k : ℕ). column true k) d) in
+    let there : is_word form w ≡ true = ap (λ (b : Bool). ltb w (cond b 2 limit)) (no_yes form e) ∙ lt-ltb w limit (omega arith) in
+    let is : column true n ≡ word_column form w = rw (e, le-leb half w l) (ap (λ (k : ℕ). column true k) d) in
     sym (ap (λ (c : List ℕ). read_word form c) is ∙ read_word_back form w there)
 
 -- the column that is written of a word of a signed number below 0, and of any other
-pub column_minus_word : (form w : ℕ) → form ≡ signed → half ≤ w → w < limit → column true (last_word - w + 1) ≡ word_column form w
+pub column_minus_word : (form : Form) (w : ℕ) → is_signed form ≡ true → half ≤ w → w < limit → column true (last_word - w + 1) ≡ word_column form w
 unfolding word_column
 column_minus_word form w e h l =
     let d : last_word - w + 1 ≡ limit - w = omega arith in
-    simp (eq-eqb form signed e, le-leb half w h, d)
+    simp (e, le-leb half w h, d)
 
-pub column_plain_word : (form w : ℕ) → (form ≡ signed → w < half) → column false w ≡ word_column form w
+pub column_plain_word : (form : Form) (w : ℕ) → (is_signed form ≡ true → w < half) → column false w ≡ word_column form w
 unfolding word_column
-column_plain_word form w h = rw (go (eqb form signed) refl)
+column_plain_word form w h = rw (go (is_signed form) refl)
   where
-    go : (s : Bool) → eqb form signed ≡ s → s && leb half w ≡ false
-    go true e = lt-leb half w (h (eqb-true form signed e))
+    go : (s : Bool) → is_signed form ≡ s → s && leb half w ≡ false
+    go true e = lt-leb half w (h e)
     go false e = refl
 
 -- ---- two's complement
@@ -198,6 +203,6 @@ nan_is (inf s) e = cc
 nan_is (fin s m k) e = cc
 
 -- any NaN prints 9221120237041090560
-pub nan_prints : word_column float (to_bits binary64 nan) ≡ word_column float 9221120237041090560
+pub nan_prints : word_column variant.Float (to_bits binary64 nan) ≡ word_column variant.Float 9221120237041090560
 unfolding to_bits
 nan_prints = refl

@@ -1,126 +1,97 @@
--- Columns by a table of forms (document 01, 'Row lines'). A form is a byte, and what stands in a column is a word of 64 bits. proofs/Tables.antt: what was
--- written reads back to its words, and a line that reads as words is the line that writing them gives, for any table.
-use Rattle.std.specs.Prelude.{ℕ, ◌+◌, ◌-◌, ◌*◌, ◌≤◌, ◌≡◌, List, [], ◌∷◌, ◌++◌, Bool, true, false, cond, ◌&&◌, ltb, leb, eqb, length, take, drop, replicate}
+-- Columns by their forms. What stands in a column is a word of 64 bits. proofs/Tables.antt: what was written reads back to its words,
+-- and a line that reads as words is the line that writing them gives, for any forms.
+use Rattle.std.specs.Prelude.{ℕ, ◌-◌, ◌*◌, List, [], ◌∷◌, ◌++◌, Bool, true, false, cond, ◌&&◌, ltb, leb, eqb, length, take, drop, Option, Some, None}
+use Rattle.std.specs.Option.{is_some, unwrap_or}
 use Rattle.columns.specs.Column.{width, column}
 use Rattle.columns.specs.Scan.{same, decimal, has_minus, limit}
 use Rattle.columns.specs.Word.{half, last_word}
-use Rattle.columns.specs.declared.forms.Word.{Word}
-use Rattle.columns.specs.declared.forms.Table.{Table}
-use Rattle.columns.specs.declared.forms.Words.{Words}
+use Rattle.columns.specs.declared.forms.Form.{Form}
+use Rattle.columns.specs.declared.forms.Form.TheVariants.{Float, YesNo, Signed, Unsigned}
 
 -- ---- the forms
 
--- 'f', a float: its word is its 64-bit pattern
-abbrev pub float : ℕ
-float = 102
+-- its word is the 64-bit pattern of a float
+abbrev pub is_float : Form → Bool
+is_float Float = true
+is_float YesNo = false
+is_float Signed = false
+is_float Unsigned = false
 
--- 'b', a yes or no: its word is 1 or 0
-abbrev pub yes_no : ℕ
-yes_no = 98
+-- its word is 1 or 0
+abbrev pub is_yes_no : Form → Bool
+is_yes_no Float = false
+is_yes_no YesNo = true
+is_yes_no Signed = false
+is_yes_no Unsigned = false
 
--- 'i', a signed number: its word is its two's complement
-abbrev pub signed : ℕ
-signed = 105
-
--- 'u', an unsigned number
-abbrev pub unsigned : ℕ
-unsigned = 117
+-- its word is the two's complement of a signed number
+abbrev pub is_signed : Form → Bool
+is_signed Float = false
+is_signed YesNo = false
+is_signed Signed = true
+is_signed Unsigned = false
 
 -- ---- one column
 
 -- a word of a form: 64 bits, and for a yes or no 1 or 0
-unfoldable pub is_word : ℕ → ℕ → Bool
-is_word form word = ltb word (cond (eqb form yes_no) 2 limit)
+unfoldable pub is_word : Form → ℕ → Bool
+is_word form word = ltb word (cond (is_yes_no form) 2 limit)
 
 -- the words of negative numbers are those from half of them on
-abbrev pub is_negative : ℕ → ℕ → Bool
-is_negative form word = eqb form signed && leb half word
+abbrev pub is_negative : Form → ℕ → Bool
+is_negative form word = is_signed form && leb half word
 
 -- the number of a word without its sign
-abbrev pub magnitude : ℕ → ℕ → ℕ
+abbrev pub magnitude : Form → ℕ → ℕ
 magnitude form word = cond (is_negative form word) (limit - word) word
 
 -- the column of a word
-unfoldable pub word_column : ℕ → ℕ → List ℕ
+unfoldable pub word_column : Form → ℕ → List ℕ
 word_column form word = column (is_negative form word) (magnitude form word)
 
 -- the word of which some bytes may be the column
-abbrev pub word_in : ℕ → List ℕ → ℕ
-word_in form bytes = cond (eqb form signed && has_minus bytes) (limit - decimal bytes) (decimal bytes)
-
-abbrev pub no_word : Word
-no_word = record { good = false; word = 0 }
-
-abbrev pub a_word : ℕ → Word
-a_word n = record { good = true; word = n }
+abbrev pub word_in : Form → List ℕ → ℕ
+word_in form bytes = cond (is_signed form && has_minus bytes) (limit - decimal bytes) (decimal bytes)
 
 -- a column is read as a word exactly when it is the column of that word; else it is badly formed
-unfoldable pub read_word : ℕ → List ℕ → Word
+unfoldable pub read_word : Form → List ℕ → Option ℕ
 read_word form bytes =
     let word = word_in form bytes in
-    cond (same bytes (word_column form word) && is_word form word) (a_word word) no_word
+    cond (same bytes (word_column form word) && is_word form word) (Some word) None
 
 -- the largest number of a form
-unfoldable pub largest : ℕ → ℕ
-largest form = cond (eqb form yes_no) 1 (cond (eqb form signed) 9223372036854775807 last_word)
+unfoldable pub largest : Form → ℕ
+largest form = cond (is_yes_no form) 1 (cond (is_signed form) 9223372036854775807 last_word)
 
 -- ---- the columns of a line
 
 -- each is well formed
-unfoldable pub columns_good : List ℕ → List ℕ → Bool
+unfoldable pub columns_good : List Form → List ℕ → Bool
 columns_good [] line = true
-columns_good (form ∷ forms) line = (read_word form (take width line)).good && columns_good forms (drop width line)
+columns_good (form ∷ forms) line = is_some (read_word form (take width line)) && columns_good forms (drop width line)
 
 -- a line has columns of these forms, and nothing else
-unfoldable pub well_formed : List ℕ → List ℕ → Bool
+unfoldable pub well_formed : List Form → List ℕ → Bool
 well_formed forms line = eqb (length line) (width * length forms) && columns_good forms line
 
 -- their words
-unfoldable pub words_of : List ℕ → List ℕ → List ℕ
+unfoldable pub words_of : List Form → List ℕ → List ℕ
 words_of [] line = []
-words_of (form ∷ forms) line = (read_word form (take width line)).word ∷ words_of forms (drop width line)
+words_of (form ∷ forms) line = unwrap_or (read_word form (take width line)) 0 ∷ words_of forms (drop width line)
+
+-- the words of a line that is well formed
+unfoldable pub read_line : List Form → List ℕ → Option (List ℕ)
+read_line forms line = cond (well_formed forms line) (Some (words_of forms line)) None
 
 -- the line of words, as far as they go
-unfoldable pub line_of : List ℕ → List ℕ → List ℕ
+unfoldable pub line_of : List Form → List ℕ → List ℕ
 line_of [] words = []
 line_of (form ∷ forms) [] = []
 line_of (form ∷ forms) (word ∷ words) = word_column form word ++ line_of forms words
 
 -- a word for each form, and each a word of its form
-unfoldable pub are_words : List ℕ → List ℕ → Bool
+unfoldable pub are_words : List Form → List ℕ → Bool
 are_words [] [] = true
 are_words [] (word ∷ words) = false
 are_words (form ∷ forms) [] = false
 are_words (form ∷ forms) (word ∷ words) = is_word form word && are_words forms words
-
--- ---- as the code holds them: up to 12 forms or words, 0 after the last
-
-abbrev pub zeros : List ℕ
-zeros = replicate 12 0
-
-abbrev pub padded : List ℕ → List ℕ
-padded l = l ++ drop (length l) zeros
-
-abbrev pub table_of : List ℕ → Table
-table_of forms = record { count = length forms; forms = padded forms }
-
-abbrev pub word_list : List ℕ → Words
-word_list words = record { count = length words; words = padded words }
-
--- the forms of a table, and the words of a list, in order
-abbrev pub forms_of : Table → List ℕ
-forms_of table = take table.count table.forms
-
-abbrev pub words_in : Words → List ℕ
-words_in words = take words.count words.words
-
--- what reading a line leaves: whether it is well formed, and its words; all are 0 where its length is another
-pub record Read (forms line : List ℕ) (good : Bool) (words : List ℕ) : Type 0 where
-  pub is_good : good ≡ well_formed forms line
-  pub are : words ≡ cond (eqb (length line) (width * length forms)) (words_of forms line ++ drop (length forms) zeros) zeros
-
--- words that a table has columns for, and a buffer has room for from a place on
-pub record WordsFit (table : Table) (words : Words) (buffer : List ℕ) (at : ℕ) : Type 0 where
-  pub table_fits : table.count ≤ 12
-  pub columns : words.count ≤ table.count
-  pub room : at + width * words.count ≤ length buffer

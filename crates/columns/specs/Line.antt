@@ -1,6 +1,7 @@
 -- Lines made of columns (document 01, 'Row lines': byte 10 after each line; a refused line prints status only).
 use Rattle.std.specs.Prelude.{ℕ, ◌*◌, List, [], ◌∷◌, ◌++◌, false, take, drop}
 use Rattle.columns.specs.Column.{width, column}
+use Rattle.columns.specs.declared.forms.Form.{Form}
 use Rattle.columns.specs.Forms.{line_of}
 
 abbrev pub newline : ℕ
@@ -19,5 +20,5 @@ unfoldable pub status_line : ℕ → List ℕ
 status_line status = column false status ++ end_of_line
 
 -- the line of words by the forms of its columns, with its newline
-unfoldable pub words_line : List ℕ → List ℕ → List ℕ
+unfoldable pub words_line : List Form → List ℕ → List ℕ
 words_line forms words = line_of forms words ++ end_of_line

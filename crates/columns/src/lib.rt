@@ -1,8 +1,8 @@
-// Columns of row files (document 01, 'Row lines'): 21 wide, with a word in each, read and written by a table of forms, each the inverse of the other.
+// Columns of row files: 21 wide, with a word in each, read and written by their forms, each the inverse of the other.
 #![tactic(auto)]
 
 pub mod scan; // a column, read: the number in it
 pub mod column; // a column, written
-pub mod forms; // the columns of a line by a table of their forms
+pub mod forms; // the columns of a line by their forms
 pub mod word; // the value of a word: a float, a signed number, a yes or no
-pub mod line; // the end of a line, and the line of words
+pub mod line; // the end of a line, and a line of words

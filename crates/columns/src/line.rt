@@ -1,11 +1,10 @@
-// The end of a line, a line that holds a status alone, and the line of words.
-ghost use Rattle.std.specs.Prelude.{◌≡◌, [], ◌∷◌, ◌+◌, ◌*◌, ◌≤◌, ◌<◌, length};
+// The end of a line, a line that holds a status alone, and a line of words.
+ghost use Rattle.std.specs.Prelude.{◌+◌, ◌*◌, ◌≤◌, ◌<◌, length};
 ghost use Rattle.columns.specs.Column.{Wrote};
-ghost use Rattle.columns.specs.Forms.{forms_of, words_in, word_list, WordsFit};
 ghost use Rattle.columns.specs.Line.{end_of_line, status_line, words_line};
 
 use crate::column::write_column;
-use crate::forms::{Table, Words, write_columns};
+use crate::forms::{Form, write_columns};
 
 // Ends a line: writes a newline at a place, and gives the place after it.
 fn end_line(out: &mut [u8], at: usize) -> usize
@@ -26,22 +25,17 @@ pub fn write_status_line(out: &mut [u8], at: usize, status: u64) -> usize
     end_line(out, end)
 }
 
-// The words of a refusal: its status alone.
-pub fn status_alone(status: u64) -> Words
-    ensures { result ≡ word_list (status ∷ []) }
-{
-    let mut words = [0u64; 12];
-    words[0] = status;
-    Words { count: 1, words }
-}
-
 // Helper. Writes the line of words, with its newline, and gives the place after it.
 #[tactic(auto, unfolding(crate::specs::Line::words_line))]
-pub fn write_line(out: &mut [u8], at: usize, table: Table, words: Words) -> usize
-    requires { WordsFit table words out.old (at + 1) }
-    ensures { Wrote out.old at (words_line (forms_of table) (words_in words))
-        (21 * words.count + 1) out.new result }
+pub fn write_line<const N: usize>(
+    out: &mut [u8],
+    at: usize,
+    forms: &[Form; N],
+    words: &[u64; N],
+) -> usize
+    requires { at + 21 * N < length out.old }
+    ensures { Wrote out.old at (words_line forms.now words.now) (21 * N + 1) out.new result }
 {
-    let end = write_columns(out, at, table, words);
+    let end = write_columns(out, at, forms, words);
     end_line(out, end)
 }

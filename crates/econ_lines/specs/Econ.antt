@@ -1,9 +1,10 @@
 -- Economizer lines (document 01, 'Row lines'): time first, then the record's fields in order; the answer is the status and the outputs in the order of
 -- `ControllerTrace`, or the status alone.
-use Rattle.std.specs.Prelude.{ℕ, List, [], ◌∷◌, eqb, get_or, Ok, Err}
+use Rattle.std.specs.Prelude.{ℕ, Ok, Err, List, [], ◌∷◌, eqb, get_or}
 use Rattle.std.specs.Float.{binary64}
 use Rattle.std.specs.Float.Ieee.{of_bits, to_bits}
-use Rattle.columns.specs.Forms.{float, yes_no, signed, unsigned}
+use Rattle.columns.specs.declared.forms.Form.{Form}
+use Rattle.columns.specs.declared.forms.Form.TheVariants.{Float, YesNo, Signed, Unsigned}
 use Rattle.columns.specs.Word.{yes_no_word, word_signed, signed_word}
 use Rattle.line_stream.specs.Lines.{Answer}
 use Rattle.line_stream.specs.RowKind.{RowKind, RowLine, row_line, line_answered}
@@ -12,23 +13,22 @@ use Rattle.refusals.specs.Refusals.{refusal_number}
 use Rattle.economizer_controller.specs.declared.types.EconomizerRow.{EconomizerRow}
 use Rattle.economizer_controller.specs.declared.types.EconomizerState.{EconomizerState}
 use Rattle.economizer_controller.specs.declared.types.EconomizerCommands.{EconomizerCommands}
-use Rattle.economizer_controller.specs.Step.{EconomizerAnswer}
 use Rattle.economizer_controller.specs.Verdict.{numbers_finite}
-use Rattle.economizer_controller.specs.Step.{economizer_row}
+use Rattle.economizer_controller.specs.Step.{EconomizerAnswer, economizer_row}
 
 -- ---- a row
 
 -- its columns: the form of each, and the field that it holds
-abbrev pub econ_row_forms : List ℕ
+abbrev pub econ_row_forms : List Form
 econ_row_forms =
-    float  -- time
-    ∷ float  -- outdoor_airflow_normalized
-    ∷ float  -- minimum_outdoor_airflow_setpoint_normalized
-    ∷ float  -- supply_temperature_signal
-    ∷ float  -- outdoor_air_temperature
-    ∷ yes_no  -- supply_fan_status
-    ∷ signed  -- operation_mode
-    ∷ signed  -- freeze_protection_stage
+    Float  -- time
+    ∷ Float  -- outdoor_airflow_normalized
+    ∷ Float  -- minimum_outdoor_airflow_setpoint_normalized
+    ∷ Float  -- supply_temperature_signal
+    ∷ Float  -- outdoor_air_temperature
+    ∷ YesNo  -- supply_fan_status
+    ∷ Signed  -- operation_mode
+    ∷ Signed  -- freeze_protection_stage
     ∷ []
 
 -- the row of their words
@@ -60,13 +60,13 @@ econ_row_words row =
 -- ---- an answer
 
 -- its columns
-abbrev pub econ_answer_forms : List ℕ
+abbrev pub econ_answer_forms : List Form
 econ_answer_forms =
-    unsigned  -- status
-    ∷ float  -- outdoor_damper_min_limit
-    ∷ yes_no  -- minimum_outdoor_air_loop_enabled
-    ∷ float  -- outdoor_damper_command
-    ∷ float  -- return_damper_command
+    Unsigned  -- status
+    ∷ Float  -- outdoor_damper_min_limit
+    ∷ YesNo  -- minimum_outdoor_air_loop_enabled
+    ∷ Float  -- outdoor_damper_command
+    ∷ Float  -- return_damper_command
     ∷ []
 
 -- the words of an accepted row's: status 0, and the commands

@@ -1,2 +1,3 @@
 -- Economizer lines.
 pub mod Econ
+pub mod Sized

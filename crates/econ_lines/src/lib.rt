@@ -1,4 +1,4 @@
-// Economizer lines (document 01, 'Row lines').
+// Economizer lines.
 #![tactic(auto)]
 
-pub mod econ; // the columns of a row and of an answer, a row by its words, and a row written
+pub mod econ; // the columns of a row and of an answer, their words, and a row answered

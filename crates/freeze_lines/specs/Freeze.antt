@@ -1,9 +1,10 @@
 -- Freeze protection's lines (document 01, 'Row lines'): time first, then the record's fields in order; the answer is the status and the outputs in the order of
 -- the Rust trace, or the status alone.
-use Rattle.std.specs.Prelude.{ℕ, List, [], ◌∷◌, eqb, get_or, Ok, Err}
+use Rattle.std.specs.Prelude.{ℕ, Ok, Err, List, [], ◌∷◌, eqb, get_or}
 use Rattle.std.specs.Float.{binary64}
 use Rattle.std.specs.Float.Ieee.{of_bits, to_bits}
-use Rattle.columns.specs.Forms.{float, yes_no, unsigned}
+use Rattle.columns.specs.declared.forms.Form.{Form}
+use Rattle.columns.specs.declared.forms.Form.TheVariants.{Float, YesNo, Unsigned}
 use Rattle.columns.specs.Word.{yes_no_word}
 use Rattle.line_stream.specs.Lines.{Answer}
 use Rattle.line_stream.specs.RowKind.{RowKind, RowLine, row_line, line_answered}
@@ -12,27 +13,26 @@ use Rattle.refusals.specs.Refusals.{refusal_number}
 use Rattle.freeze_protection.specs.declared.types.FreezeRow.{FreezeRow}
 use Rattle.freeze_protection.specs.declared.types.FreezeState.{FreezeState}
 use Rattle.freeze_protection.specs.declared.types.FreezeCommands.{FreezeCommands}
-use Rattle.freeze_protection.specs.Step.{FreezeAnswer}
 use Rattle.freeze_protection.specs.Verdict.{numbers_finite}
-use Rattle.freeze_protection.specs.Step.{freeze_row}
+use Rattle.freeze_protection.specs.Step.{FreezeAnswer, freeze_row}
 
 -- ---- a row
 
 -- its columns: the form of each, and the field that it holds
-abbrev pub freeze_row_forms : List ℕ
+abbrev pub freeze_row_forms : List Form
 freeze_row_forms =
-    float  -- time
-    ∷ float  -- outdoor_damper_min_position
-    ∷ float  -- outdoor_damper
-    ∷ float  -- heating_coil
-    ∷ float  -- minimum_outdoor_damper
-    ∷ float  -- return_damper
-    ∷ float  -- supply_air_temperature
-    ∷ yes_no  -- software_reset
-    ∷ yes_no  -- supply_fan_status
-    ∷ float  -- supply_fan_speed
-    ∷ float  -- cooling_coil
-    ∷ float  -- mixed_air_temperature
+    Float  -- time
+    ∷ Float  -- outdoor_damper_min_position
+    ∷ Float  -- outdoor_damper
+    ∷ Float  -- heating_coil
+    ∷ Float  -- minimum_outdoor_damper
+    ∷ Float  -- return_damper
+    ∷ Float  -- supply_air_temperature
+    ∷ YesNo  -- software_reset
+    ∷ YesNo  -- supply_fan_status
+    ∷ Float  -- supply_fan_speed
+    ∷ Float  -- cooling_coil
+    ∷ Float  -- mixed_air_temperature
     ∷ []
 
 -- the row of their words
@@ -72,20 +72,20 @@ freeze_row_words row =
 -- ---- an answer
 
 -- its columns
-abbrev pub freeze_answer_forms : List ℕ
+abbrev pub freeze_answer_forms : List Form
 freeze_answer_forms =
-    unsigned  -- status
-    ∷ unsigned  -- freeze_protection_stage
-    ∷ yes_no  -- chilled_water_pump_enable
-    ∷ float  -- return_damper_command
-    ∷ float  -- outdoor_damper_command
-    ∷ float  -- minimum_outdoor_damper_command
-    ∷ yes_no  -- supply_fan_status
-    ∷ float  -- supply_fan_speed
-    ∷ float  -- cooling_coil_command
-    ∷ float  -- heating_coil_command
-    ∷ unsigned  -- hot_water_plant_request
-    ∷ unsigned  -- alarm_level
+    Unsigned  -- status
+    ∷ Unsigned  -- freeze_protection_stage
+    ∷ YesNo  -- chilled_water_pump_enable
+    ∷ Float  -- return_damper_command
+    ∷ Float  -- outdoor_damper_command
+    ∷ Float  -- minimum_outdoor_damper_command
+    ∷ YesNo  -- supply_fan_status
+    ∷ Float  -- supply_fan_speed
+    ∷ Float  -- cooling_coil_command
+    ∷ Float  -- heating_coil_command
+    ∷ Unsigned  -- hot_water_plant_request
+    ∷ Unsigned  -- alarm_level
     ∷ []
 
 -- the words of an accepted row's: status 0, and the commands

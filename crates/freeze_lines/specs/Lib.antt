@@ -1,2 +1,3 @@
 -- Freeze lines.
 pub mod Freeze
+pub mod Sized

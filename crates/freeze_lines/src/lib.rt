@@ -1,4 +1,4 @@
-// Freeze lines (document 01, 'Row lines').
+// Freeze lines.
 #![tactic(auto)]
 
-pub mod freeze; // the columns of a row and of an answer, a row by its words, and a row written
+pub mod freeze; // the columns of a row and of an answer, their words, and a row answered

@@ -1,43 +1,25 @@
 -- The lines of any kind of rows: the length of an answer, that bytes past the 255th of a line make no difference, and a line answered by the words that were
 -- read of it. Assumes nothing.
 use Prim.Native.Nat.{ℕ, ◌+◌, ◌*◌, ◌≤◌}
-use mathlib.Core.Path.{◌≡◌, refl, sym, ap, ◌∙◌}
-use mathlib.Core.List.{List, [], ◌∷◌, ◌++◌}
+use mathlib.Core.Path.{◌≡◌, refl, sym, ap, subst, ◌∙◌}
+use mathlib.Core.List.{List}
 use mathlib.Core.Bool.{Bool, true, false, cond}
 use native.Mathlib.Omega.{arith}
-use lib.ListN.{length, take, drop, length-take}
+use lib.ListN.{length, take, length-take}
 use lib.Seq.{take_all}
-use borrow.Author.Tests.{eq-eqb}
-use Rattle.columns.specs.declared.forms.Words.{Words}
-use Rattle.columns.specs.Forms.{unsigned, well_formed, words_of, word_list, zeros, Read}
-use Rattle.columns.specs.Line.{words_line}
+use Rattle.std.specs.Prelude.{Option, Some, None}
+use Rattle.columns.specs.Column.{Wrote}
+use Rattle.columns.specs.Forms.{well_formed, words_of, read_line}
+use Rattle.columns.specs.Line.{status_line, words_line}
+use Rattle.columns.proofs.Writing.{wrote_text}
 use Rattle.columns.proofs.Tables.{other_length, well_length}
-use Rattle.columns.proofs.Lines.{length_status, length_words_line, status_words_line}
-use Rattle.line_stream.specs.Lines.{Answer}
-use Rattle.line_stream.specs.RowKind.{RowKind, RowLine, Row, Malformed, row_line, read_answered, line_answered, Stepped}
+use Rattle.columns.proofs.Lines.{length_status, length_words_line}
+use Rattle.line_stream.specs.Lines.{Answered}
+use Rattle.line_stream.specs.RowKind.{RowKind, RowLine, Row, Malformed, row_line, read_answered, line_answered, Stepped, Sized}
 use Rattle.line_stream.proofs.Cutting.{at_most_or_above}
 
--- the answer to a line by the words that are written of it, with a form and room for each
-pub record SaidBy {Q : Type 0} (a : Answer Q) (forms line : List ℕ) (next : Q) (answer : Words) : Type 0 where
-  pub words : List ℕ
-  pub is : answer ≡ word_list words
-  pub columns : length words ≤ length forms
-  pub room : 21 * length words + 1 ≤ 22 * (length line + 1)
-  pub answered : record { next = next; said = words_line forms words } ≡ a
-
 module _ {S R A : Type 0} (kind : RowKind S R A) where
-  -- what every kind owes: a row of at most 12 columns, of which words past the last make no difference; a status first in its answers, and a form for each of
-  -- their words; 22 bytes at most of an answer for each byte of a line with its newline
-  pub record Sized : Type 0 where
-    pub columns : length kind.row_forms ≤ 12
-    pub answer_columns : length kind.answer_forms ≤ 12
-    pub commands : List ℕ
-    pub status : kind.answer_forms ≡ unsigned ∷ commands
-    pub words : (a : A) → length (kind.answer_words a) ≤ length kind.answer_forms
-    pub padded : (line : List ℕ) → kind.row_of (words_of kind.row_forms line ++ drop (length kind.row_forms) zeros) ≡ kind.row_of (words_of kind.row_forms line)
-    pub room : 21 * length kind.answer_forms + 1 ≤ 22 * (21 * length kind.row_forms + 1)
-
-  module _ (sized : Sized) where
+  module _ (sized : Sized kind) where
     other_malformed : (line : List ℕ) → (length line ≡ 21 * length kind.row_forms → ⊥) → row_line kind line ≡ Malformed
     unfolding row_line
     other_malformed line h = rw (other_length kind.row_forms line h)
@@ -65,44 +47,35 @@ module _ {S R A : Type 0} (kind : RowKind S R A) where
             let a : A = kind.answer q (kind.row_of (words_of kind.row_forms line)) in
             omega (arith, length_words_line kind.answer_forms (kind.answer_words a) (sized.words a), sized.words a, sized.room, well_length kind.row_forms line e)
 
-    -- ---- a line answered by the words that were read of it
-    module _ (state : S) (line : List ℕ) (good : Bool) (words : List ℕ) (read : Read kind.row_forms line good words) where
-      row_is : good ≡ true → kind.row_of words ≡ kind.row_of (words_of kind.row_forms line)
-      row_is h =
-          let l : length line ≡ 21 * length kind.row_forms = well_length kind.row_forms line (sym read.is_good ∙ h) in
-          ap (λ (x : List ℕ). kind.row_of x)
-          (read.are ∙ ap (λ (b : Bool). cond b (words_of kind.row_forms line ++ drop (length kind.row_forms) zeros) zeros) (eq-eqb (length line) (21 * length kind.row_forms) l))
-          ∙ sized.padded line
+  -- ---- a line answered by the words that were read of it
 
-      -- a row
-      pub row_answered : good ≡ true → (next : S) (answer : Words) → Stepped kind state words next answer
-          → SaidBy (line_answered kind state line) kind.answer_forms line next answer
-      unfolding line_answered row_line read_answered
-      row_answered h next answer s =
-          let a : A = kind.answer state (kind.row_of words) in
-          let well : well_formed kind.row_forms line ≡ true = sym read.is_good ∙ h in
-          record {
-            words = kind.answer_words a;
-            is = s.said;
-            columns = sized.words a;
-            room = omega (arith, sized.words a, sized.room, well_length kind.row_forms line well);
-            answered =
-                rw well (λ i. record {
-                  next = (s.moved ∙ ap (λ (x : R). kind.next state x) (row_is h)) i;
-                  said = words_line kind.answer_forms (ap (λ (x : R). kind.answer_words (kind.answer state x)) (row_is h) i);
-                });
-          }
+  -- the row of the words of a line
+  abbrev row_in : Option (List ℕ) → RowLine R
+  row_in None = Malformed
+  row_in (Some words) = Row (kind.row_of words)
 
-      -- a badly formed line
-      pub bad_answered : good ≡ false → (answer : Words) → answer ≡ word_list (5 ∷ [])
-          → SaidBy (line_answered kind state line) kind.answer_forms line state answer
-      unfolding line_answered row_line read_answered
-      bad_answered h answer e = record {
-        words = 5 ∷ [];
-        is = e;
-        columns = omega (arith, ap length sized.status);
-        room = omega arith;
-        answered =
-            rw (sym read.is_good ∙ h)
-            (ap (λ (x : List ℕ). record { next = state; said = x }) (ap (λ (x : List ℕ). words_line x (5 ∷ [])) sized.status ∙ status_words_line sized.commands 5));
-      }
+  row_is : (line : List ℕ) → row_line kind line ≡ row_in (read_line kind.row_forms line)
+  unfolding row_line read_line
+  row_is line = by (well_formed kind.row_forms line)
+    where
+      by : (t : Bool) → cond t (Row (kind.row_of (words_of kind.row_forms line))) Malformed ≡ row_in (cond t (Some (words_of kind.row_forms line)) None)
+      by true = refl
+      by false = refl
+
+  module _ (state : S) (line out : List ℕ) (at : ℕ) (after : List ℕ) (place : ℕ) where
+    -- a badly formed line
+    pub bad_answered : None ≡ read_line kind.row_forms line → Wrote out at (status_line 5) 22 after place
+        → Answered (line_answered kind state line) out at state after place
+    unfolding line_answered read_answered
+    bad_answered e w =
+        subst (λ (x : RowLine R). Answered (read_answered kind state x) out at state after place) (ap row_in e ∙ sym (row_is line))
+        (record { state = refl; text = wrote_text _ _ _ refl w })
+
+    -- a row, by the text that is written of its answer
+    pub row_answered : (words : List ℕ) → Some words ≡ read_line kind.row_forms line → (next : S) (answer : A) → Stepped kind state (kind.row_of words) next answer
+        → (text : List ℕ) (n : ℕ) → text ≡ words_line kind.answer_forms (kind.answer_words answer) → Wrote out at text n after place
+        → Answered (line_answered kind state line) out at next after place
+    unfolding line_answered read_answered
+    row_answered words e next answer s text n t w =
+        subst (λ (x : RowLine R). Answered (read_answered kind state x) out at next after place) (ap row_in e ∙ sym (row_is line))
+        (record { state = s.moved; text = wrote_text _ _ _ (t ∙ ap (λ (x : A). words_line kind.answer_forms (kind.answer_words x)) s.said) w })

@@ -1,15 +1,16 @@
 -- A kind of rows as a table (document 01, 'Row lines' and 'What each row refuses'): the forms of its columns in and out, the words of a row made into its
 -- record and back, an answer made into words, and what the sequence says of a row. Each line of rows of a kind is answered by a line.
-use Rattle.std.specs.Prelude.{ℕ, ◌≡◌, List, Bool, cond}
-use Rattle.columns.specs.declared.forms.Words.{Words}
-use Rattle.columns.specs.Forms.{well_formed, words_of, word_list}
+use Rattle.std.specs.Prelude.{ℕ, ◌+◌, ◌*◌, ◌≤◌, ◌≡◌, List, ◌∷◌, Bool, cond, length}
+use Rattle.columns.specs.declared.forms.Form.{Form}
+use Rattle.columns.specs.declared.forms.Form.TheVariants.{Unsigned}
+use Rattle.columns.specs.Forms.{well_formed, words_of}
 use Rattle.columns.specs.Line.{status_line, words_line}
 use Rattle.line_stream.specs.Lines.{Answer}
 
 -- a kind whose sequence has states S, rows R and answers A
 pub record RowKind (S R A : Type 0) : Type 0 where
   -- the forms of the columns of a row, the row of their words, and the words of a row
-  pub row_forms : List ℕ
+  pub row_forms : List Form
   pub row_of : List ℕ → R
   pub row_words : R → List ℕ
   -- every number of a row is finite
@@ -18,7 +19,7 @@ pub record RowKind (S R A : Type 0) : Type 0 where
   pub next : S → R → S
   pub answer : S → R → A
   -- the forms of the columns of an answer, and its words: the status, and the commands where it is 0
-  pub answer_forms : List ℕ
+  pub answer_forms : List Form
   pub answer_words : A → List ℕ
 
 -- a line without its newline: a row, or badly formed
@@ -40,7 +41,17 @@ module _ {S R A : Type 0} (kind : RowKind S R A) where
   unfoldable pub line_answered : S → List ℕ → Answer S
   line_answered state line = read_answered state (row_line line)
 
-  -- what the words of a row leave: the next state, and the words of the answer
-  pub record Stepped (state : S) (words : List ℕ) (next : S) (answer : Words) : Type 0 where
-    pub moved : next ≡ kind.next state (kind.row_of words)
-    pub said : answer ≡ word_list (kind.answer_words (kind.answer state (kind.row_of words)))
+  -- what a row leaves: the next state, and the answer
+  pub record Stepped (state : S) (row : R) (next : S) (answer : A) : Type 0 where
+    pub moved : next ≡ kind.next state row
+    pub said : answer ≡ kind.answer state row
+
+  -- what every kind owes: a row of at most 12 columns, and an answer of as many; a status first in its answers, and a form for each of their words; 22 bytes at
+  -- most of an answer for each byte of a line with its newline
+  pub record Sized : Type 0 where
+    pub columns : length kind.row_forms ≤ 12
+    pub answer_columns : length kind.answer_forms ≤ 12
+    pub commands : List Form
+    pub status : kind.answer_forms ≡ Unsigned ∷ commands
+    pub words : (a : A) → length (kind.answer_words a) ≤ length kind.answer_forms
+    pub room : 21 * length kind.answer_forms + 1 ≤ 22 * (21 * length kind.row_forms + 1)

@@ -1,2 +1,3 @@
 -- Relief lines.
 pub mod Relief
+pub mod Sized

@@ -1,9 +1,10 @@
 -- Relief lines (document 01, 'Row lines'): time first, then the record's fields in order, arrays by index; the answer is the status, the mean, four speeds and
 -- four dampers, or the status alone.
-use Rattle.std.specs.Prelude.{ℕ, List, [], ◌∷◌, false, eqb, pos, get_or, Ok, Err}
+use Rattle.std.specs.Prelude.{ℕ, Ok, Err, List, [], ◌∷◌, false, eqb, pos, get_or}
 use Rattle.std.specs.Float.{binary64}
 use Rattle.std.specs.Float.Ieee.{of_bits, to_bits}
-use Rattle.columns.specs.Forms.{float, yes_no, signed, unsigned}
+use Rattle.columns.specs.declared.forms.Form.{Form}
+use Rattle.columns.specs.declared.forms.Form.TheVariants.{Float, YesNo, Signed, Unsigned}
 use Rattle.columns.specs.Word.{yes_no_word, word_signed, signed_word}
 use Rattle.line_stream.specs.Lines.{Answer}
 use Rattle.line_stream.specs.RowKind.{RowKind, RowLine, row_line, line_answered}
@@ -12,27 +13,26 @@ use Rattle.refusals.specs.Refusals.{refusal_number}
 use Rattle.relief_fan_group.specs.declared.types.ReliefRow.{ReliefRow}
 use Rattle.relief_fan_group.specs.declared.types.ReliefState.{ReliefState}
 use Rattle.relief_fan_group.specs.declared.types.ReliefCommands.{ReliefCommands}
-use Rattle.relief_fan_group.specs.Step.{ReliefAnswer}
 use Rattle.relief_fan_group.specs.Verdict.{numbers_finite}
-use Rattle.relief_fan_group.specs.Step.{relief_row}
+use Rattle.relief_fan_group.specs.Step.{ReliefAnswer, relief_row}
 
 -- ---- a row
 
 -- its columns: the form of each, and the field that it holds
-abbrev pub relief_row_forms : List ℕ
+abbrev pub relief_row_forms : List Form
 relief_row_forms =
-    float  -- time
-    ∷ yes_no  -- supply 1
-    ∷ yes_no  -- supply 2
-    ∷ float  -- pressure
-    ∷ signed  -- alarm 1
-    ∷ signed  -- alarm 2
-    ∷ signed  -- alarm 3
-    ∷ signed  -- alarm 4
-    ∷ yes_no  -- proof 1
-    ∷ yes_no  -- proof 2
-    ∷ yes_no  -- proof 3
-    ∷ yes_no  -- proof 4
+    Float  -- time
+    ∷ YesNo  -- supply 1
+    ∷ YesNo  -- supply 2
+    ∷ Float  -- pressure
+    ∷ Signed  -- alarm 1
+    ∷ Signed  -- alarm 2
+    ∷ Signed  -- alarm 3
+    ∷ Signed  -- alarm 4
+    ∷ YesNo  -- proof 1
+    ∷ YesNo  -- proof 2
+    ∷ YesNo  -- proof 3
+    ∷ YesNo  -- proof 4
     ∷ []
 
 -- the row of their words
@@ -65,18 +65,18 @@ relief_row_words row =
 -- ---- an answer
 
 -- its columns
-abbrev pub relief_answer_forms : List ℕ
+abbrev pub relief_answer_forms : List Form
 relief_answer_forms =
-    unsigned  -- status
-    ∷ float  -- averaged_pressure
-    ∷ float  -- fan_speed_1
-    ∷ float  -- fan_speed_2
-    ∷ float  -- fan_speed_3
-    ∷ float  -- fan_speed_4
-    ∷ float  -- damper_1
-    ∷ float  -- damper_2
-    ∷ float  -- damper_3
-    ∷ float  -- damper_4
+    Unsigned  -- status
+    ∷ Float  -- averaged_pressure
+    ∷ Float  -- fan_speed_1
+    ∷ Float  -- fan_speed_2
+    ∷ Float  -- fan_speed_3
+    ∷ Float  -- fan_speed_4
+    ∷ Float  -- damper_1
+    ∷ Float  -- damper_2
+    ∷ Float  -- damper_3
+    ∷ Float  -- damper_4
     ∷ []
 
 -- the words of an accepted row's: status 0, and the commands

@@ -1,4 +1,4 @@
-// Relief lines (document 01, 'Row lines').
+// Relief lines.
 #![tactic(auto)]
 
-pub mod relief; // the columns of a row and of an answer, a row by its words, and a row written
+pub mod relief; // the columns of a row and of an answer, their words, and a row answered

@@ -1,177 +1,138 @@
--- A line of a kind of rows: what the words that were read of it leave of the reader that the code carries, and its answer written. Assumes nothing.
-use Prim.Native.Nat.{ℕ, ◌+◌, ◌*◌, ◌≤◌}
-use mathlib.Core.Path.{◌≡◌, refl, sym, ap, subst, ◌∙◌}
-use mathlib.Core.List.{List, [], ◌∷◌}
-use mathlib.Core.Bool.{Bool, true, false}
-use native.Mathlib.Omega.{arith}
+-- The lines of a kind of rows, answered by themselves, as those of the reader that the code carries. Assumes nothing.
+use Prim.Native.Nat.{ℕ, ◌+◌, ◌-◌}
+use mathlib.Core.Path.{◌≡◌, refl, sym, ap, ◌∙◌}
+use mathlib.Core.List.{List, [], ◌∷◌, ◌++◌}
+use mathlib.Core.Bool.{Bool, true, false, cond}
+use lib.Dec.{ltb}
 use lib.Ieee.{Float}
-use lib.ListN.{length}
-use Rattle.columns.specs.declared.forms.Table.{Table}
-use Rattle.columns.specs.declared.forms.Words.{Words}
-use Rattle.columns.specs.Column.{Wrote}
-use Rattle.columns.specs.Forms.{table_of, word_list, forms_of, words_in, Read, WordsFit}
-use Rattle.columns.specs.Line.{words_line}
+use lib.ListN.{length, take, drop}
 use Rattle.columns.proofs.Writing.{wrote_text}
-use Rattle.columns.proofs.Tables.{forms_are, words_are}
-use Rattle.line_stream.specs.Lines.{Answer, Answered}
-use Rattle.line_stream.specs.RowKind.{Stepped}
-use Rattle.line_stream.proofs.RowKinds.{SaidBy, row_answered, bad_answered}
-use Rattle.moving_average.specs.declared.lent.Integrator.{Integrator}
+use Rattle.line_stream.specs.Lines.{Answer, Fed, answers, feed, lines_after, rest_after, onward, fed_from}
+use Rattle.line_stream.specs.RowKind.{RowKind, Stepped}
+use Rattle.row_writer.specs.Lines.{WindowLeft}
 use Rattle.freeze_protection.specs.declared.types.FreezeState.{FreezeState}
 use Rattle.economizer_controller.specs.declared.types.EconomizerState.{EconomizerState}
+use Rattle.moving_average.specs.declared.lent.Integrator.{Integrator}
 use Rattle.relief_fan_group.specs.declared.types.ReliefBlocks.{ReliefBlocks}
-use Rattle.relief_fan_group.specs.declared.types.ReliefState.{ReliefState}
 use Rattle.relief_fan_group.specs.Lent.{lent_state}
-use Rattle.relief_fan_group.proofs.Sized.{row_sized}
-use Rattle.freeze_lines.specs.Freeze.{freeze_kind}
-use Rattle.freeze_lines.proofs.Sized.{freeze_sized}
-use Rattle.relief_lines.specs.Relief.{relief_kind}
-use Rattle.relief_lines.proofs.Sized.{relief_sized}
-use Rattle.econ_lines.specs.Econ.{econ_kind}
-use Rattle.econ_lines.proofs.Sized.{econ_sized}
+use Rattle.freeze_lines.specs.Freeze.{freeze_answered}
+use Rattle.relief_lines.specs.Relief.{relief_answered}
+use Rattle.econ_lines.specs.Econ.{econ_answered}
 use Rattle.row_kinds.specs.declared.kind.Kind.{Kind}
 use Rattle.row_kinds.specs.declared.kind.Kind.TheVariants as kind
+use Rattle.row_kinds.specs.declared.kind.Phase.{Phase}
 use Rattle.row_kinds.specs.declared.kind.Phase.TheVariants as phase
-use Rattle.row_kinds.specs.Kind.{row_forms_of, answer_forms_of}
-use Rattle.row_kinds.specs.Reader.{At, answer_as, reader_line}
-use Rattle.row_kinds.specs.Rows.{Freeze, Relief, Econ, Rows, rows_line, Carried, carried, sequence_in, with_sequence, Window}
-use Rattle.row_kinds.proofs.Sequences.{own_phase, same_sequence}
+use Rattle.row_kinds.specs.declared.types.RowReader.{RowReader}
+use Rattle.row_kinds.specs.Reader.{At, answer_as, reader_kept, reader_line}
+use Rattle.row_kinds.specs.Rows.{Sequence, Freeze, Relief, Econ, Rows, rows_line, phase_first, Carried, carried, sequence_in, rows_in, with_sequence, with_rows, Window, LinesAnswered, LinesPassed}
+use Rattle.row_kinds.proofs.Sequences.{at_phase_lem}
 
--- what it leaves: the words of its answer, what is carried on, and the window
-pub record LineDone (k : Kind) (c : Carried) (line : List ℕ) (c' : Carried) (answer : Words) : Type 0 where
-  pub said : SaidBy (rows_line (At (sequence_in k c)) line) (answer_forms_of k) line (At (sequence_in k c')) answer
-  pub moved : c' ≡ with_sequence (sequence_in k c') c
-  pub window : Window c'.times c'.integrals
+-- ---- a sequence in a larger one: its lines are answered alike
 
-said_as : {S Q : Type 0} (f : S → Q) (a : Answer S) (forms line : List ℕ) (next : S) (answer : Words) → SaidBy a forms line next answer
-    → SaidBy (answer_as f a) forms line (f next) answer
-said_as f a forms line next answer s = record {
-  words = s.words;
-  is = s.is;
-  columns = s.columns;
-  room = s.room;
-  answered = ap (answer_as f) s.answered;
+abbrev fed_as : {S Q : Type 0} → (S → Q) → Fed S → Fed Q
+fed_as f x = record { next = f x.next; part = x.part; said = x.said }
+
+module _ {S Q : Type 0} (f : S → Q) (line : S → List ℕ → Answer S) (line' : Q → List ℕ → Answer Q) (alike : (s : S) (l : List ℕ) → line' (f s) l ≡ answer_as f (line s l)) where
+  answers_as : (s : S) (lines : List (List ℕ)) → answers line' (f s) lines ≡ answer_as f (answers line s lines)
+  unfolding answers
+  answers_as s [] = refl
+  answers_as s (l ∷ lines) =
+      ap (λ (a : Answer Q). record { next = (answers line' a.next lines).next; said = a.said ++ (answers line' a.next lines).said }) (alike s l)
+      ∙ ap (λ (b : Answer Q). record { next = b.next; said = (line s l).said ++ b.said }) (answers_as (line s l).next lines)
+
+  feed_as : (s : S) (p bytes : List ℕ) → feed line' (f s) p bytes ≡ fed_as f (feed line s p bytes)
+  unfolding feed
+  feed_as s p bytes = ap (λ (a : Answer Q). record { next = a.next; part = rest_after p bytes; said = a.said }) (answers_as s (lines_after p bytes))
+
+  from_as : (text : List ℕ) (s : S) (i j : ℕ) → fed_from line' text (f s) i j ≡ fed_as f (fed_from line text s i j)
+  unfolding fed_from
+  from_as text s i j = by (ltb j (length text))
+    where
+      l : List ℕ
+      l = take (j - i) (drop i text)
+
+      bytes : List ℕ
+      bytes = drop (j + 1) text
+
+      by : (t : Bool) → cond t (onward line' (f s) l bytes) (record { next = f s; part = drop i text; said = [] })
+          ≡ fed_as f (cond t (onward line s l bytes) (record { next = s; part = drop i text; said = [] }))
+      by true =
+          ap (λ (a : Answer Q). record { next = (feed line' a.next [] bytes).next; part = (feed line' a.next [] bytes).part; said = a.said ++ (feed line' a.next [] bytes).said }) (alike s l)
+          ∙ ap (λ (b : Fed Q). record { next = b.next; part = b.part; said = (line s l).said ++ b.said }) (feed_as (line s l).next [] bytes)
+      by false = refl
+
+-- a row by another name for it
+pub stepped_as : {S R A : Type 0} {kind : RowKind S R A} {s s' : S} {r r' : R} {a : A} → Stepped kind s r s' a → r ≡ r' → Stepped kind s r' s' a
+stepped_as {kind = k} {s} h e = record { moved = h.moved ∙ ap (λ x. k.next s x) e; said = h.said ∙ ap (λ x. k.answer s x) e }
+
+-- ---- the window, after one row and another
+
+pub window_on : {h : Bool} {t g t' g' t'' g'' : List Float} → WindowLeft h t g t' g' → WindowLeft h t' g' t'' g'' → WindowLeft h t g t'' g''
+window_on v w = record {
+  times_long = w.times_long;
+  integrals_long = w.integrals_long;
+  kept = λ e. ((w.kept e).0 ∙ (v.kept e).0, (w.kept e).1 ∙ (v.kept e).1);
 }
 
-module _ (c : Carried) (w : Window c.times c.integrals) (line : List ℕ) (good : Bool) (words : List ℕ) (answer : Words) where
-  pub freeze_done : Read (row_forms_of kind.Freeze) line good words → good ≡ true → (s : FreezeState) → Stepped freeze_kind c.reader.freeze words s answer
-      → LineDone kind.Freeze c line (with_sequence (Freeze s) c) answer
-  unfolding row_forms_of answer_forms_of reader_line
-  freeze_done r h s d = record {
-    said = said_as (λ (x : FreezeState). At (Freeze x)) _ _ line s answer (row_answered freeze_kind freeze_sized c.reader.freeze line good words r h s answer d);
-    moved = refl;
-    window = w;
-  }
+-- ---- what is carried, by the kind of its rows
 
-  pub econ_done : Read (row_forms_of kind.Econ) line good words → good ≡ true → (s : EconomizerState) → Stepped econ_kind c.reader.econ words s answer
-      → LineDone kind.Econ c line (with_sequence (Econ s) c) answer
-  unfolding row_forms_of answer_forms_of reader_line
-  econ_done r h s d = record {
-    said = said_as (λ (x : EconomizerState). At (Econ x)) _ _ line s answer (row_answered econ_kind econ_sized c.reader.econ line good words r h s answer d);
-    moved = refl;
-    window = w;
-  }
+module _ (r : RowReader) (times integrals : List Float) (text : List ℕ) (first : ℕ) (out : List ℕ) (from rest : ℕ) (after : List ℕ) (at : ℕ) where
+  abbrev before : Carried
+  before = carried r times integrals
 
-  abbrev relief_in : ReliefState
-  relief_in = lent_state c.reader.integrator c.reader.blocks c.times c.integrals
-
-  pub relief_done : Read (row_forms_of kind.Relief) line good words → good ≡ true → (s : ReliefState) → Stepped relief_kind relief_in words s answer
-      → LineDone kind.Relief c line (with_sequence (Relief s) c) answer
-  unfolding row_forms_of answer_forms_of reader_line
-  relief_done r h s d =
-      let z = row_sized relief_in (relief_kind.row_of words) (record { times = w.times_long; integrals = w.integrals_long }) in
+  -- by a state of the kind, and what is carried with it
+  passed : {S : Type 0} (k : Kind) → r.phase ≡ phase.Rows k → (f : S → Sequence) (line : S → List ℕ → Answer S)
+      → ((s : S) (l : List ℕ) → rows_line (At (f s)) l ≡ answer_as (λ (x : S). At (f x)) (line s l)) → (s s' : S) → sequence_in k before ≡ f s
+      → LinesAnswered line s text first out from s' rest after at
+      → (last : Carried) → last ≡ with_sequence (f s') before → sequence_in k last ≡ f s' → last.reader.phase ≡ phase.Rows k → Window last.times last.integrals
+      → LinesPassed before text first out from last rest after at
+  unfolding phase_first
+  passed {S} k p f line alike s s' is a last moved is' p' w =
+      let g : S → Rows = λ (x : S). At (f x) in
+      let e : fed_from rows_line text (rows_in before) 0 first ≡ fed_as g (fed_from line text s 0 first) =
+      ap (λ (q : Rows). fed_from rows_line text q 0 first) (at_phase_lem before (phase.Rows k) p ∙ ap (λ (q : Sequence). At q) is)
+      ∙ from_as g line rows_line alike text s 0 first in
+      let next : At (f s') ≡ (fed_from rows_line text (rows_in before) 0 first).next = ap g a.lines.state ∙ ap (λ (x : Fed Rows). x.next) (sym e) in
       record {
-        said = said_as (λ (x : ReliefState). At (Relief x)) _ _ line s answer (row_answered relief_kind relief_sized relief_in line good words r h s answer d);
-        moved = refl;
-        window = record {
-          times_long = ap (λ (q : ReliefState). length q.window.times) d.moved ∙ z.times;
-          integrals_long = ap (λ (q : ReliefState). length q.window.integrals) d.moved ∙ z.integrals;
+        named = ap phase_first p';
+        window = w;
+        within = a.within;
+        fits = a.fits;
+        same_phase = p' ∙ sym p;
+        moved = moved ∙ ap (λ (q : Rows). with_rows q before) next;
+        lines = record {
+          state = at_phase_lem last (phase.Rows k) p' ∙ ap (λ (q : Sequence). At q) is' ∙ next;
+          part = a.lines.part ∙ ap (λ (x : Fed Rows). reader_kept x.next x.part) (sym e);
+          text = wrote_text _ _ _ (ap (λ (x : Fed Rows). x.said) (sym e)) a.lines.text;
         };
       }
 
-  -- a badly formed line
-  pub bad_done : (k : Kind) → c.reader.phase ≡ phase.Rows k → Read (row_forms_of k) line good words → good ≡ false → answer ≡ word_list (5 ∷ []) → LineDone k c line c answer
-  unfolding row_forms_of answer_forms_of reader_line
-  bad_done k p r h a = record { said = by k r; moved = sym (same_sequence k c ∙ own_phase c (phase.Rows k) p); window = w }
-    where
-      by : (k : Kind) → Read (row_forms_of k) line good words → SaidBy (rows_line (At (sequence_in k c)) line) (answer_forms_of k) line (At (sequence_in k c)) answer
-      by kind.Freeze r = said_as (λ (x : FreezeState). At (Freeze x)) _ _ line _ answer (bad_answered freeze_kind freeze_sized c.reader.freeze line good words r h answer a)
-      by kind.Relief r = said_as (λ (x : ReliefState). At (Relief x)) _ _ line _ answer (bad_answered relief_kind relief_sized relief_in line good words r h answer a)
-      by kind.Econ r = said_as (λ (x : EconomizerState). At (Econ x)) _ _ line _ answer (bad_answered econ_kind econ_sized c.reader.econ line good words r h answer a)
+  -- freeze and economizer rows leave the window as it was
+  module _ (times' integrals' : List Float) (v : WindowLeft false times integrals times' integrals') where
+    pub freeze_passed : r.phase ≡ phase.Rows kind.Freeze → (s : FreezeState) → LinesAnswered freeze_answered r.freeze text first out from s rest after at
+        → LinesPassed before text first out from
+        (carried (record { phase = r.phase; freeze = s; integrator = r.integrator; blocks = r.blocks; econ = r.econ }) times' integrals') rest after at
+    unfolding reader_line
+    freeze_passed p s a =
+        passed kind.Freeze p Freeze freeze_answered (λ s l. refl) r.freeze s refl a _
+        (λ i. carried (record { phase = p i; freeze = s; integrator = r.integrator; blocks = r.blocks; econ = r.econ }) ((v.kept refl).0 i) ((v.kept refl).1 i))
+        refl p (record { times_long = v.times_long; integrals_long = v.integrals_long })
 
--- ---- by the locals of the loop
+    pub econ_passed : r.phase ≡ phase.Rows kind.Econ → (s : EconomizerState) → LinesAnswered econ_answered r.econ text first out from s rest after at
+        → LinesPassed before text first out from
+        (carried (record { phase = r.phase; freeze = r.freeze; integrator = r.integrator; blocks = r.blocks; econ = s }) times' integrals') rest after at
+    unfolding reader_line
+    econ_passed p s a =
+        passed kind.Econ p Econ econ_answered (λ s l. refl) r.econ s refl a _
+        (λ i. carried (record { phase = p i; freeze = r.freeze; integrator = r.integrator; blocks = r.blocks; econ = s }) ((v.kept refl).0 i) ((v.kept refl).1 i))
+        refl p (record { times_long = v.times_long; integrals_long = v.integrals_long })
 
--- what they make
-abbrev pub at_rows : Kind → FreezeState → Integrator → ReliefBlocks → EconomizerState → List Float → List Float → Carried
-at_rows k freeze integrator blocks econ times integrals =
-    carried (record { phase = phase.Rows k; freeze = freeze; integrator = integrator; blocks = blocks; econ = econ }) times integrals
-
--- a line, by other names for what it left
-pub met : (k : Kind) (c : Carried) (line : List ℕ) {f f' : FreezeState} {n n' : Integrator} {b b' : ReliefBlocks} {e e' : EconomizerState} {t t' g g' : List Float} {a a' : Words}
-    → f ≡ f' → n ≡ n' → b ≡ b' → e ≡ e' → t ≡ t' → g ≡ g' → a ≡ a' → LineDone k c line (at_rows k f' n' b' e' t' g') a' → LineDone k c line (at_rows k f n b e t g) a
-met k c line ef en eb ee et eg ea = subst (λ (x : Type 0). x) (sym (λ i. LineDone k c line (at_rows k (ef i) (en i) (eb i) (ee i) (et i) (eg i)) (ea i)))
-
-module _ (k : Kind) (f : FreezeState) (n : Integrator) (b : ReliefBlocks) (e : EconomizerState) (t g : List Float) (w : Window t g) (line : List ℕ) (good : Bool) (words : List ℕ)
-    (read : Read (row_forms_of k) line good words) where
-  pub freeze_arm : k ≡ kind.Freeze → good ≡ true → (s : FreezeState) (answer : Words) → Stepped freeze_kind f words s answer
-      → LineDone k (at_rows k f n b e t g) line (at_rows k s n b e t g) answer
-  freeze_arm d h s answer st =
-      subst (λ (x : Kind). Read (row_forms_of x) line good words → LineDone x (at_rows x f n b e t g) line (at_rows x s n b e t g) answer) (sym d)
-      (λ r. freeze_done (at_rows kind.Freeze f n b e t g) w line good words answer r h s st) read
-
-  pub econ_arm : k ≡ kind.Econ → good ≡ true → (s : EconomizerState) (answer : Words) → Stepped econ_kind e words s answer
-      → LineDone k (at_rows k f n b e t g) line (at_rows k f n b s t g) answer
-  econ_arm d h s answer st =
-      subst (λ (x : Kind). Read (row_forms_of x) line good words → LineDone x (at_rows x f n b e t g) line (at_rows x f n b s t g) answer) (sym d)
-      (λ r. econ_done (at_rows kind.Econ f n b e t g) w line good words answer r h s st) read
-
-  pub relief_arm : k ≡ kind.Relief → good ≡ true → (n' : Integrator) (b' : ReliefBlocks) (t' g' : List Float) (answer : Words)
-      → Stepped relief_kind (lent_state n b t g) words (lent_state n' b' t' g') answer → LineDone k (at_rows k f n b e t g) line (at_rows k f n' b' e t' g') answer
-  relief_arm d h n' b' t' g' answer st =
-      subst (λ (x : Kind). Read (row_forms_of x) line good words → LineDone x (at_rows x f n b e t g) line (at_rows x f n' b' e t' g') answer) (sym d)
-      (λ r. relief_done (at_rows kind.Relief f n b e t g) w line good words answer r h (lent_state n' b' t' g') st) read
-
-  pub bad_arm : good ≡ false → (answer : Words) → answer ≡ word_list (5 ∷ []) → LineDone k (at_rows k f n b e t g) line (at_rows k f n b e t g) answer
-  bad_arm h answer a = bad_done (at_rows k f n b e t g) w line good words answer k refl read h a
-
--- ---- the answer written
-
-pub read_by : (k : Kind) (table : Table) → table ≡ table_of (row_forms_of k) → (line : List ℕ) (good : Bool) (words : List ℕ) → Read (forms_of table) line good words
-    → Read (row_forms_of k) line good words
-read_by k table e line good words = subst (λ (f : List ℕ). Read f line good words) (forms_are (row_forms_of k) table e)
-
-pub row_columns : (k : Kind) (table : Table) → table ≡ table_of (row_forms_of k) → table.count ≤ 12
-unfolding row_forms_of
-row_columns kind.Freeze table e = omega (arith, ap (λ (x : Table). x.count) e)
-row_columns kind.Relief table e = omega (arith, ap (λ (x : Table). x.count) e)
-row_columns kind.Econ table e = omega (arith, ap (λ (x : Table). x.count) e)
-
-answer_columns : (k : Kind) → length (answer_forms_of k) ≤ 12
-unfolding answer_forms_of
-answer_columns kind.Freeze = omega arith
-answer_columns kind.Relief = omega arith
-answer_columns kind.Econ = omega arith
-
-module _ (k : Kind) (table : Table) (e : table ≡ table_of (answer_forms_of k)) (a : Answer Rows) (line : List ℕ) (next : Rows) (answer : Words)
-    (s : SaidBy a (answer_forms_of k) line next answer) (out : List ℕ) (at : ℕ) where
-  -- there is room for it
-  pub answer_room : at + 22 * (length line + 1) ≤ length out → WordsFit table answer out (at + 1)
-  answer_room h =
-      let n : table.count ≡ length (answer_forms_of k) = ap (λ (x : Table). x.count) e in
-      let m : answer.count ≡ length s.words = ap (λ (x : Words). x.count) s.is in
-      record {
-        table_fits = omega (arith, n, answer_columns k);
-        columns = omega (arith, n, m, s.columns);
-        room = omega (arith, m, s.room);
-      }
-
-  pub answer_written : (after : List ℕ) (place : ℕ) → Wrote out at (words_line (forms_of table) (words_in answer)) (21 * answer.count + 1) after place
-      → Answered a out at next after place
-  answer_written after place w = record {
-    state = ap (λ (x : Answer Rows). x.next) s.answered;
-    text =
-        wrote_text _ _ _
-        (ap (λ (f : List ℕ). words_line f (words_in answer)) (forms_are (answer_forms_of k) table e)
-        ∙ ap (λ (l : List ℕ). words_line (answer_forms_of k) l) (words_are s.words answer s.is)
-        ∙ ap (λ (x : Answer Rows). x.said) s.answered) w;
-  }
+  pub relief_passed : r.phase ≡ phase.Rows kind.Relief → (n : Integrator) (b : ReliefBlocks) (times' integrals' : List Float) → WindowLeft true times integrals times' integrals'
+      → LinesAnswered relief_answered (lent_state r.integrator r.blocks times integrals) text first out from (lent_state n b times' integrals') rest after at
+      → LinesPassed before text first out from
+      (carried (record { phase = r.phase; freeze = r.freeze; integrator = n; blocks = b; econ = r.econ }) times' integrals') rest after at
+  unfolding reader_line
+  relief_passed p n b times' integrals' v a =
+      passed kind.Relief p Relief relief_answered (λ s l. refl) (lent_state r.integrator r.blocks times integrals) (lent_state n b times' integrals') refl a _
+      (ap (λ (x : Phase). carried (record { phase = x; freeze = r.freeze; integrator = n; blocks = b; econ = r.econ }) times' integrals') p) refl p
+      (record { times_long = v.times_long; integrals_long = v.integrals_long })

@@ -10,11 +10,11 @@ use Rattle.line_stream.specs.Lines.{whole}
 use Rattle.line_stream.proofs.Cutting.{at_most_or_above}
 use Rattle.line_stream.proofs.RowKinds.{kind_cut, kind_room}
 use Rattle.freeze_lines.specs.Freeze.{freeze_kind}
-use Rattle.freeze_lines.proofs.Sized.{freeze_sized}
+use Rattle.freeze_lines.specs.Sized.{freeze_sized}
 use Rattle.relief_lines.specs.Relief.{relief_kind}
-use Rattle.relief_lines.proofs.Sized.{relief_sized}
+use Rattle.relief_lines.specs.Sized.{relief_sized}
 use Rattle.econ_lines.specs.Econ.{econ_kind}
-use Rattle.econ_lines.proofs.Sized.{econ_sized}
+use Rattle.econ_lines.specs.Sized.{econ_sized}
 use Rattle.row_kinds.specs.declared.kind.Kind.{Kind}
 use Rattle.row_kinds.specs.declared.kind.Kind.TheVariants as kind
 use Rattle.row_kinds.specs.declared.kind.Phase.{Phase}

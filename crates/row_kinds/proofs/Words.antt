@@ -1,4 +1,4 @@
--- What `check::same` says of two lists of bytes, and that a long line is no word of a first line. Assumes nothing.
+-- What `==` says of two lists of bytes, and that a long line is no word of a first line. Assumes nothing.
 use Prim.Native.Nat.{ℕ, ◌<◌}
 use mathlib.Core.Path.{◌≡◌, refl, sym, ap, ◌∙◌}
 use mathlib.Core.List.{List}

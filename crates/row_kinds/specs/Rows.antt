@@ -4,7 +4,7 @@ use Rattle.std.specs.Prelude.{ℕ, ◌+◌, ◌*◌, ◌≤◌, ◌≡◌, List,
 use Rattle.reals.specs.Constants.{plus_zero}
 use Rattle.columns.specs.Column.{Wrote}
 use Rattle.columns.specs.Line.{status_line}
-use Rattle.line_stream.specs.Lines.{Answer, Fed, feed, Answered, fed_from, LinesAs, FedAs}
+use Rattle.line_stream.specs.Lines.{Answer, Fed, feed, cut, Answered, fed_from, LinesAs, FedAs}
 use Rattle.moving_average.specs.declared.lent.Integrator.{Integrator}
 use Rattle.freeze_protection.specs.declared.types.FreezeState.{FreezeState}
 use Rattle.freeze_protection.specs.Step.{freeze_fresh}
@@ -164,36 +164,31 @@ pub record Window (times integrals : List Float) : Type 0 where
   pub times_long : length times ≡ 512
   pub integrals_long : length integrals ≡ 512
 
--- what a chunk is fed with: a buffer for 256 bytes of a line, those that it holds, the window, and 22 bytes of output for each byte that may end a line
-pub record Lent (chunk line : List ℕ) (had : ℕ) (out : List ℕ) (times integrals : List Float) : Type 0 where
+-- what a chunk is fed with: a buffer for 256 bytes of a line, those that it holds, and 22 bytes of output for each byte that may end a line
+pub record Lent (chunk line : List ℕ) (had : ℕ) (out : List ℕ) : Type 0 where
   pub line_long : length line ≡ 256
   pub had_fits : had ≤ 256
   pub room : 22 * (256 + length chunk) ≤ length out
-  pub window : Window times integrals
 
 -- what a first line is begun with
-pub record Beginning (reader : RowReader) (out : List ℕ) (times integrals : List Float) : Type 0 where
+pub record Beginning (reader : RowReader) (out : List ℕ) : Type 0 where
   pub first : phase_first reader.phase ≡ true
   pub room : 22 ≤ length out
-  pub window : Window times integrals
 
 -- what the lines of a text after the first of the input are passed with; and those of a kind
-pub record Passing (reader : RowReader) (text out : List ℕ) (at : ℕ) (times integrals : List Float) : Type 0 where
+pub record Passing (reader : RowReader) (text out : List ℕ) (at : ℕ) : Type 0 where
   pub named : phase_first reader.phase ≡ false
   pub room : at + 22 * length text ≤ length out
-  pub window : Window times integrals
 
-pub record PassingRows (kind : Kind) (reader : RowReader) (text out : List ℕ) (at : ℕ) (times integrals : List Float) : Type 0 where
+pub record PassingRows (kind : Kind) (reader : RowReader) (text out : List ℕ) (at : ℕ) : Type 0 where
   pub at_rows : reader.phase ≡ phase.Rows kind
   pub room : at + 22 * length text ≤ length out
-  pub window : Window times integrals
 
 -- what the line that ends the bytes kept of it is answered with
-pub record Keeping (line : List ℕ) (len : ℕ) (out : List ℕ) (times integrals : List Float) : Type 0 where
+pub record Keeping (line : List ℕ) (len : ℕ) (out : List ℕ) : Type 0 where
   pub line_long : length line ≡ 256
   pub len_fits : len ≤ 256
   pub room : 22 * (len + 1) ≤ length out
-  pub window : Window times integrals
 
 -- what a first line that names no kind leaves: the same states, and 6
 pub record Ended (before : RowReader) (out : List ℕ) (next : RowReader) (after : List ℕ) (at : ℕ) : Type 0 where
@@ -206,6 +201,13 @@ pub record LineAnswered (before : Carried) (line out : List ℕ) (next : Carried
   pub window : Window next.times next.integrals
   pub moved : next ≡ with_rows (rows_line (rows_in before) line).next before
   pub answered : Answered (rows_line (rows_in before) line) out 0 (rows_in next) after at
+
+-- what the lines of a text leave of a sequence by itself, the first of which ends at a given place: its state, the place of the bytes of which a part is kept, and
+-- the answers
+pub record LinesAnswered {S : Type 0} (line : S → List ℕ → Answer S) (before : S) (text : List ℕ) (first : ℕ) (out : List ℕ) (from : ℕ) (next : S) (rest : ℕ) (after : List ℕ) (at : ℕ) : Type 0 where
+  pub within : rest ≤ length text
+  pub fits : at ≤ from + 22 * rest
+  pub lines : LinesAs (λ q p. cut p) (fed_from line text before 0 first) next (drop rest text) out from after at
 
 -- what the lines of a text leave, the first of which ends at a given place: what is carried on, the place of the bytes of which a part is kept, and the answers
 pub record LinesPassed (before : Carried) (text : List ℕ) (first : ℕ) (out : List ℕ) (from : ℕ) (next : Carried) (rest : ℕ) (after : List ℕ) (at : ℕ) : Type 0 where

@@ -1,15 +1,9 @@
-// The kinds of rows, and the first line of an input. A kind is an arm of each function here, and of the loop in feed.rt.
+// The kinds of rows, and the first line of an input.
 ghost use Rattle.std.specs.Prelude.{◌≡◌};
-ghost use Rattle.columns.specs.Forms.{table_of};
-ghost use Rattle.row_kinds.specs.Kind.{phase_after, row_forms_of, answer_forms_of};
+ghost use Rattle.row_kinds.specs.Kind.{phase_after};
 ghost use Rattle.row_kinds.specs.Rows.{phase_first, phase_stopped};
 
-use columns::forms::Table;
-use econ_lines::econ::{ECON_ANSWER, ECON_ROW};
-use freeze_lines::freeze::{FREEZE_ANSWER, FREEZE_ROW};
-use relief_lines::relief::{RELIEF_ANSWER, RELIEF_ROW};
-
-#[derive(Clone, Copy)]
+#[derive(Clone, Copy, PartialEq, Eq)]
 pub enum Kind {
     Freeze,
     Relief,
@@ -17,7 +11,7 @@ pub enum Kind {
 }
 
 // Before the first line, at the rows of a kind, or after a first line that names none.
-#[derive(Clone, Copy)]
+#[derive(Clone, Copy, PartialEq, Eq)]
 pub enum Phase {
     First,
     Rows(Kind),
@@ -29,42 +23,16 @@ pub enum Phase {
 pub fn phase_after(line: &[u8]) -> Phase
     ensures { result ≡ phase_after line.now }
 {
-    if check::same(line, b"freeze") {
+    if line == b"freeze".as_slice() {
         return Phase::Rows(Kind::Freeze);
     }
-    if check::same(line, b"relief") {
+    if line == b"relief".as_slice() {
         return Phase::Rows(Kind::Relief);
     }
-    if check::same(line, b"econ") {
+    if line == b"econ".as_slice() {
         return Phase::Rows(Kind::Econ);
     }
     Phase::Stopped
-}
-
-impl Kind {
-    // The columns of a row.
-    #[tactic(auto, unfolding(crate::specs::Kind::row_forms_of))]
-    pub fn row_table(self) -> Table
-        ensures { result ≡ table_of (row_forms_of self) }
-    {
-        match self {
-            Kind::Freeze => FREEZE_ROW,
-            Kind::Relief => RELIEF_ROW,
-            Kind::Econ => ECON_ROW,
-        }
-    }
-
-    // The columns of an answer.
-    #[tactic(auto, unfolding(crate::specs::Kind::answer_forms_of))]
-    pub fn answer_table(self) -> Table
-        ensures { result ≡ table_of (answer_forms_of self) }
-    {
-        match self {
-            Kind::Freeze => FREEZE_ANSWER,
-            Kind::Relief => RELIEF_ANSWER,
-            Kind::Econ => ECON_ANSWER,
-        }
-    }
 }
 
 impl Phase {
@@ -73,11 +41,7 @@ impl Phase {
     pub fn first(self) -> bool
         ensures { result ≡ phase_first self }
     {
-        match self {
-            Phase::First => true,
-            Phase::Rows(_) => false,
-            Phase::Stopped => false,
-        }
+        matches!(self, Phase::First)
     }
 
     // The reader reads no more.
@@ -85,10 +49,6 @@ impl Phase {
     pub fn stopped(self) -> bool
         ensures { result ≡ phase_stopped self }
     {
-        match self {
-            Phase::First => false,
-            Phase::Rows(_) => false,
-            Phase::Stopped => true,
-        }
+        matches!(self, Phase::Stopped)
     }
 }

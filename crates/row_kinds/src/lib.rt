@@ -1,4 +1,4 @@
-// The kinds of rows (document 01, 'Row lines'): the first line, what is carried from chunk to chunk, and the lines of a kind answered.
+// The kinds of rows: the first line, what is carried from chunk to chunk, and the lines of a kind answered.
 #![tactic(auto)]
 
 pub mod kind; // the kinds, and the first line

@@ -1,90 +1,114 @@
-// The lines of a kind of rows in a text: one loop for all kinds, each an arm of it. The output and the arrays of the relief window are lent.
-ghost use Rattle.std.specs.Prelude.{◌+◌};
-ghost use Rattle.row_kinds.specs.Rows.{carried, PassingRows, LinesPassed};
+// The lines of a kind of rows in a text, answered: one loop for any kind. The output is lent, and so are the arrays of the relief window, one by one, as the C
+// interface lends them.
+ghost use Rattle.std.specs.Prelude.{◌+◌, ◌*◌, ◌≤◌, length};
+ghost use Rattle.line_stream.specs.Lines.{Answered};
+ghost use Rattle.line_stream.specs.RowKind.{line_answered};
+ghost use Rattle.row_writer.specs.Lines.{WindowLeft};
+ghost use Rattle.row_kinds.specs.Rows.{carried, PassingRows, LinesAnswered, LinesPassed};
 
-use crate::kind::{Kind, Phase};
+use crate::kind::Kind;
 use crate::types::RowReader;
 use columns::forms::read_columns;
-use columns::line::{status_alone, write_line};
-use econ_lines::econ::econ_step;
-use freeze_lines::freeze::freeze_step;
+use columns::line::{write_line, write_status_line};
+use econ_lines::econ::EconLines;
+use freeze_lines::freeze::FreezeLines;
 use line_stream::line_end;
-use relief_lines::relief::relief_step;
+use relief_lines::relief::{ReliefHeld, ReliefLines};
+use row_writer::lines::RowLines;
 
-// The reader after some lines, the place of the bytes after the last of them, and the place after their answers.
+// The place of the bytes after some lines, and the place after their answers.
 #[derive(Clone, Copy)]
 pub struct Passed {
-    pub reader: RowReader,
     pub rest: usize,
     pub at: usize,
 }
 
-// Helper. Answers the lines of a text by their kind, in the bytes from `at` on. The first line ends at the place `first`. Only the state of that kind is touched.
+// Answers a line in the bytes from `at` on, with 5 where it is badly formed, and gives the place after its answer.
+fn answer_line<K: RowLines<N, M>, const N: usize, const M: usize>(
+    line: &[u8],
+    out: &mut [u8],
+    times: &mut [f64; 512],
+    integrals: &mut [f64; 512],
+    state: &mut K::State,
+    at: usize,
+) -> usize
+    requires { at + 22 * (length line.now + 1) ≤ length out.old }
+    ensures answered { Answered (line_answered K.kind (K.held state.old times.old integrals.old) line.now)
+        out.old at (K.held state.new times.new integrals.new) out.new result }
+    ensures window { WindowLeft K.has_window times.old integrals.old times.new integrals.new }
+{
+    let Some(words) = read_columns(line, &K::ROW) else {
+        return write_status_line(out, at, 5);
+    };
+    match K::step(state, times, integrals, K::row_of(&words)) {
+        Ok(commands) => write_line(out, at, &K::ANSWER, &K::command_words(commands)),
+        Err(refusal) => write_status_line(out, at, refusal.number()),
+    }
+}
+
+// Answers the lines of a text in the bytes from `at` on. The first line ends at the place `first`.
+fn answer_lines<K: RowLines<N, M>, const N: usize, const M: usize>(
+    text: &[u8],
+    out: &mut [u8],
+    times: &mut [f64; 512],
+    integrals: &mut [f64; 512],
+    state: &mut K::State,
+    first: usize,
+    at: usize,
+) -> Passed
+    requires { at + 22 * length text.now ≤ length out.old }
+    ensures answered { LinesAnswered (line_answered K.kind) (K.held state.old times.old integrals.old)
+        text.now first out.old at
+        (K.held state.new times.new integrals.new) result.rest out.new result.at }
+    ensures window { WindowLeft K.has_window times.old integrals.old times.new integrals.new }
+{
+    let mut sent = at;
+    let mut i: usize = 0;
+    let mut j = first;
+    while j < text.len() {
+        sent = answer_line::<K, _, _>(&text[i..j], out, times, integrals, state, sent);
+        i = j + 1;
+        j = line_end(text, i);
+    }
+    Passed { rest: i, at: sent }
+}
+
+// Helper. Answers the lines of a text by their kind. The first line ends at the place `first`. Only the state of that kind is touched.
 pub fn pass_rows(
     text: &[u8],
     out: &mut [u8],
     times: &mut [f64; 512],
     integrals: &mut [f64; 512],
-    reader: RowReader,
+    reader: &mut RowReader,
     kind: Kind,
     first: usize,
     at: usize,
 ) -> Passed
-    requires { PassingRows kind reader text.now out.old at times.old integrals.old }
-    ensures { LinesPassed (carried reader times.old integrals.old)
+    requires { PassingRows kind reader.old text.now out.old at }
+    ensures { LinesPassed (carried reader.old times.old integrals.old)
         text.now first out.old at
-        (carried result.reader times.new integrals.new) result.rest out.new result.at }
+        (carried reader.new times.new integrals.new) result.rest out.new result.at }
 {
-    let rows = kind.row_table();
-    let answers = kind.answer_table();
-    let mut freeze = reader.freeze;
-    let mut integrator = reader.integrator;
-    let mut blocks = reader.blocks;
-    let mut econ = reader.econ;
-    let mut sent = at;
-    let mut i: usize = 0;
-    let mut j = first;
-    while j < text.len() {
-        let read = read_columns(&text[i..j], rows);
-        let words = read.words;
-        let mut answer = status_alone(5);
-        if read.good {
-            match kind {
-                Kind::Freeze => {
-                    let stepped = freeze_step(freeze, words);
-                    let next = stepped.state;
-                    freeze = next;
-                    answer = stepped.answer;
-                }
-                Kind::Relief => {
-                    let stepped = relief_step(integrator, blocks, times, integrals, words);
-                    let following = stepped.integrator;
-                    let next = stepped.blocks;
-                    integrator = following;
-                    blocks = next;
-                    answer = stepped.answer;
-                }
-                Kind::Econ => {
-                    let stepped = econ_step(econ, words);
-                    let next = stepped.state;
-                    econ = next;
-                    answer = stepped.answer;
-                }
-            }
+    match kind {
+        Kind::Freeze => {
+            let freeze = &mut reader.freeze;
+            answer_lines::<FreezeLines, _, _>(text, out, times, integrals, freeze, first, at)
         }
-        sent = write_line(out, sent, answers, answer);
-        i = j + 1;
-        j = line_end(text, i);
-    }
-    Passed {
-        reader: RowReader {
-            phase: Phase::Rows(kind),
-            freeze,
-            integrator,
-            blocks,
-            econ,
-        },
-        rest: i,
-        at: sent,
+        Kind::Relief => {
+            let mut held = ReliefHeld {
+                integrator: reader.integrator,
+                blocks: reader.blocks,
+            };
+            let passed = answer_lines::<ReliefLines, _, _>(
+                text, out, times, integrals, &mut held, first, at,
+            );
+            reader.integrator = held.integrator;
+            reader.blocks = held.blocks;
+            passed
+        }
+        Kind::Econ => {
+            let econ = &mut reader.econ;
+            answer_lines::<EconLines, _, _>(text, out, times, integrals, econ, first, at)
+        }
     }
 }

@@ -21,10 +21,9 @@ pub struct RowReader {
     pub econ: EconomizerState,
 }
 
-// The reader after a chunk, the bytes kept of a line that has not ended, and the bytes to be written.
+// What a chunk gives: the number of bytes kept of a line that has not ended, and of those to be written.
 #[derive(Clone, Copy)]
 pub struct Fed {
-    pub reader: RowReader,
     pub len: usize,
     pub sent: usize,
 }

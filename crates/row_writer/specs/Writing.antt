@@ -1,5 +1,5 @@
--- A row written as its line (document 02, job 8: writing rows back).
-use Rattle.std.specs.Prelude.{ℕ, ◌+◌, ◌≡◌, List, [], ◌∷◌, ◌++◌, Bool, not, cond, ltb, length}
+-- A row written as its line.
+use Rattle.std.specs.Prelude.{ℕ, ◌+◌, ◌≡◌, List, [], ◌∷◌, ◌++◌, Bool, not, cond, ltb, length, Result, Ok, Err}
 use Rattle.refusals.specs.declared.Refusal.{Refusal}
 use Rattle.refusals.specs.declared.Refusal.TheVariants.{NotFinite, NoRoom}
 use Rattle.columns.specs.Column.{over}
@@ -7,17 +7,15 @@ use Rattle.columns.specs.Forms.{line_of}
 use Rattle.columns.specs.Line.{words_line}
 use Rattle.line_stream.specs.Lines.{Answer}
 use Rattle.line_stream.specs.RowKind.{RowKind, Row, row_line, read_answered}
-use Rattle.row_writer.specs.declared.RowWritten.{RowWritten}
-use Rattle.row_writer.specs.declared.RowWritten.TheVariants.{Line, Refused}
 
 -- what writing gives: the place after the line or the refusal, and the whole buffer
 pub record Written : Type 0 where
-  pub answer : RowWritten
+  pub answer : Result ℕ Refusal
   pub buffer : List ℕ
 
 -- a refusal leaves every byte as it was
 abbrev pub untouched : Refusal → List ℕ → Written
-untouched refusal buffer = record { answer = Refused refusal; buffer = buffer }
+untouched refusal buffer = record { answer = Err refusal; buffer = buffer }
 
 -- a text put into a buffer from a place on, every other byte kept. Before anything is written it is refused: with 1 if a number is not finite, or else with 10
 -- if what is left of the buffer from there on is shorter than the text
@@ -25,7 +23,7 @@ unfoldable pub write_text : Bool → List ℕ → List ℕ → ℕ → Written
 write_text finite text buffer at =
     let end = at + length text in
     cond (not finite) (untouched NotFinite buffer)
-    (cond (ltb (length buffer) end) (untouched NoRoom buffer) (record { answer = Line end; buffer = over buffer at text }))
+    (cond (ltb (length buffer) end) (untouched NoRoom buffer) (record { answer = Ok end; buffer = over buffer at text }))
 
 module _ {S R A : Type 0} (kind : RowKind S R A) where
   -- the line of a row, with its newline
@@ -59,6 +57,6 @@ module _ {S R A : Type 0} (kind : RowKind S R A) where
   AllReadBack (row ∷ rows) = ReadsBack row × AllReadBack rows
 
 -- what a writer leaves: that answer, and that buffer
-pub record LeftBy (written : Written) (answer : RowWritten) (buffer : List ℕ) : Type 0 where
+pub record LeftBy (written : Written) (answer : Result ℕ Refusal) (buffer : List ℕ) : Type 0 where
   pub said : answer ≡ written.answer
   pub bytes : buffer ≡ written.buffer

@@ -1,46 +1,39 @@
-// A row written as its line (document 02, job 8), by the table of its columns: the whole line with its newline, or nothing.
+// What a kind of rows is to its reader and its writer; and a row written as its line, the whole line with its newline, or nothing.
 #![tactic(auto)]
 
-ghost use Rattle.std.specs.Prelude.{◌≡◌, ◌+◌, ◌*◌, ◌≤◌, ltb, not};
-ghost use Rattle.columns.specs.Forms.{forms_of, words_in};
-ghost use Rattle.columns.specs.Line.{words_line};
-ghost use Rattle.row_writer.specs.Writing.{write_text, LeftBy};
+ghost use Rattle.std.specs.Prelude.{◌≡◌, ◌+◌, ltb, not};
+ghost use Rattle.row_writer.specs.Writing.{write_row, LeftBy, ReadsBack};
 
-use columns::forms::{Table, Words};
+use crate::lines::RowLines;
 use columns::line::write_line;
 use refusals::Refusal;
 
-// What writing a row gives: the place after its line, or why it is refused.
-#[derive(Clone, Copy)]
-pub enum RowWritten {
-    Line(usize),
-    Refused(Refusal),
-}
+pub mod lines; // what a kind of rows is
 
 // Whether a buffer of `len` bytes has n from the place `at` on.
 fn has_room(len: usize, at: usize, n: usize) -> bool
     ensures { result ≡ not (ltb len (at + n)) }
 {
-    if at > len {
-        return false;
-    }
-    len - at >= n
+    at <= len && n <= len - at
 }
 
-// Helper. Writes the line of a row's words from the place `at` on; `finite` says that every number of the row is finite.
-pub fn write_row(out: &mut [u8], at: usize, table: Table, words: Words, finite: bool) -> RowWritten
-    requires { (table.count ≤ 12) × (words.count ≤ table.count) }
-    ensures { LeftBy (write_text finite (words_line (forms_of table) (words_in words)) out.old at) result
-        out.new }
+// Writes the line of a row, with its newline, from the place `at` on, and gives the place after it. A number that is not finite is refused (1), or else a line
+// that does not fit (10), and no byte changes then. What is written reads back as the row. The time is not looked at: what the sequence would refuse for it is
+// written too.
+pub fn write_row<K: RowLines<N, M>, const N: usize, const M: usize>(
+    out: &mut [u8],
+    at: usize,
+    row: K::Row,
+) -> Result<usize, Refusal>
+    ensures left_by { LeftBy (write_row K.kind row out.old at) result out.new }
+    ensures reads_back { ReadsBack K.kind row }
 {
-    let n = 21 * words.count + 1;
-    let fits = has_room(out.len(), at, n);
-    if !finite {
-        return RowWritten::Refused(Refusal::NotFinite);
+    let words = K::row_words(row);
+    if !K::is_finite(row) {
+        return Err(Refusal::NotFinite);
     }
-    if !fits {
-        return RowWritten::Refused(Refusal::NoRoom);
+    if !has_room(out.len(), at, 21 * N + 1) {
+        return Err(Refusal::NoRoom);
     }
-    let next = write_line(out, at, table, words);
-    RowWritten::Line(next)
+    Ok(write_line(out, at, &K::ROW, &words))
 }

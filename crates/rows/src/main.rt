@@ -1,4 +1,4 @@
-// Reads a row file from standard input and writes its answers to standard output (document 01, 'Row lines'). What came is answered and written
+// Reads a row file from standard input and writes its answers to standard output . What came is answered and written
 // before more is read, so it serves a pipe. Where reading or writing fails it says so on standard error, and stops; its exit status is 0 then too.
 #![tactic(auto)]
 
@@ -12,10 +12,9 @@ use row_reader::feed::{feed, finish};
 use std::io;
 use std::io::Read;
 
-// The reader after a turn, the bytes kept of a line, whether all answers were written, and whether there is a next turn.
+// The bytes kept of a line after a turn, whether all answers were written, and whether there is a next turn.
 #[derive(Clone, Copy)]
 struct Turned {
-    reader: RowReader,
     len: usize,
     written: bool,
     more: bool,
@@ -36,7 +35,7 @@ fn put(rt: &(impl Print + Eprint), answers: &[u8]) -> bool {
 }
 
 // The input has ended.
-fn end(rt: &(impl Print + Eprint), reader: RowReader, line: &[u8], len: usize, out: &mut [u8])
+fn end(rt: &(impl Print + Eprint), reader: &RowReader, line: &[u8], len: usize, out: &mut [u8])
     requires { (len ≤ length line.now) × (22 ≤ length out.old) }
 {
     let said = finish(reader, line, len, out);
@@ -47,7 +46,7 @@ fn end(rt: &(impl Print + Eprint), reader: RowReader, line: &[u8], len: usize, o
 fn no_more(
     rt: &(impl Print + Eprint),
     got: io::Result<usize>,
-    reader: RowReader,
+    reader: &RowReader,
     line: &[u8],
     len: usize,
     out: &mut [u8],
@@ -70,35 +69,28 @@ fn turn(
     out: &mut [u8],
     times: &mut [f64; 512],
     integrals: &mut [f64; 512],
-    reader: RowReader,
+    reader: &mut RowReader,
     had: usize,
 ) -> Turned
-    requires { Lent buffer.old line.old had out.old times.old integrals.old }
-    ensures { TurnLeft result.reader result.len result.written result.more times.new
-        integrals.new }
+    requires { Lent buffer.old line.old had out.old }
+    ensures { TurnLeft reader.new result.len result.written result.more times.new integrals.new }
 {
     let got = rt.reader().read(buffer);
     let n = got.unwrap_or(0);
     if n == 0 {
         no_more(rt, got, reader, line, had, out);
         return Turned {
-            reader,
             len: had,
             written: true,
             more: false,
         };
     }
     let fed = feed(&buffer[..n], line, out, times, integrals, reader, had);
-    let sent = fed.sent;
-    let written = put(rt, &out[..sent]);
-    let next = fed.reader;
-    let phase = next.phase;
-    let stopped = phase.stopped();
+    let written = put(rt, &out[..fed.sent]);
     Turned {
-        reader: next,
         len: fed.len,
         written,
-        more: written & !stopped,
+        more: written & !reader.phase.stopped(),
     }
 }
 
@@ -111,14 +103,12 @@ fn play(
     times: &mut [f64; 512],
     integrals: &mut [f64; 512],
 )
-    requires { Lent buffer.old line.old 0 out.old times.old integrals.old }
+    requires { Lent buffer.old line.old 0 out.old }
 {
     let mut reader = fresh_at(Phase::First);
     let mut len: usize = 0;
     for _ in 0..u64::MAX {
-        let turned = turn(rt, buffer, line, out, times, integrals, reader, len);
-        let next = turned.reader;
-        reader = next;
+        let turned = turn(rt, buffer, line, out, times, integrals, &mut reader, len);
         len = turned.len;
         if !turned.more {
             break;

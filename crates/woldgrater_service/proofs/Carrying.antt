@@ -1,5 +1,5 @@
 -- What is carried from call to call as words is the reader that they stand for. Assumes nothing.
-use Prim.Native.Nat.{ℕ, ◌≤◌}
+use Prim.Native.Nat.{ℕ, ◌≤◌, min}
 use mathlib.Core.Path.{◌≡◌, sym, ap, subst, ◌∙◌}
 use mathlib.Core.List.{List}
 use native.Mathlib.Nat.{le_of_eq}
@@ -8,6 +8,7 @@ use lib.ListN.{length, take}
 use lib.Seq.{take_all}
 use lib.Ieee.{Float}
 use Rattle.columns.specs.Column.{Wrote}
+use Rattle.line_stream.proofs.Cutting.{at_most_or_above}
 use Rattle.row_kinds.specs.declared.types.RowReader.{RowReader}
 use Rattle.row_kinds.specs.Reader.{reader_ending}
 use Rattle.row_kinds.specs.Rows.{Carried, carried, rows_in, Finished}
@@ -23,6 +24,17 @@ kept_whole kept h = record {
   fits = omega arith;
   same = λ line n. take_all 256 line (le_of_eq n) ∙ sym (take_all kept line (omega (arith, n, h)));
 }
+
+-- and any number as far as the buffer goes
+pub kept_within : (kept n : ℕ) → n ≡ min kept 256 → KeptOf kept n
+kept_within kept n e =
+    at_most_or_above kept 256
+    (λ h.
+    let d : n ≡ kept = omega arith in
+    record { fits = omega arith; same = λ line l. ap (λ (k : ℕ). take k line) d })
+    (λ h.
+    let d : n ≡ 256 = omega arith in
+    subst (λ (k : ℕ). KeptOf kept k) (sym d) (kept_whole kept (omega arith)))
 
 -- what a chunk leaves, after the bytes that a caller says were kept
 pub kept_fed : (kept had : ℕ) → KeptOf kept had → (line : List ℕ) → length line ≡ 256 → (before : Carried) (chunk out : List ℕ) (next : Carried) (line' : List ℕ) (len : ℕ) (after : List ℕ) (sent : ℕ)

@@ -60,11 +60,11 @@ fn feed_chunk(
         (memory result.state line.new times.new integrals.new) out.new
         result.sent }
 {
-    let reader = RowReader::from(state.reader);
-    let fed = feed_lent(chunk, out, line, times, integrals, reader, state.kept);
+    let mut reader = RowReader::from(state.reader);
+    let fed = feed_lent(chunk, out, line, times, integrals, &mut reader, state.kept);
     ChunkFed {
         state: State {
-            reader: RowReaderWords::from(fed.reader),
+            reader: RowReaderWords::from(reader),
             kept: fed.len,
         },
         sent: fed.sent,
@@ -116,7 +116,7 @@ fn end_file(out: &mut [u8], line: &[u8; 256], state: State) -> usize
     requires { status_length ≤ length out.old }
     ensures { EndedBy state line.now out.old out.new result }
 {
-    finish_lent(out, line, RowReader::from(state.reader), state.kept)
+    finish_lent(out, line, &RowReader::from(state.reader), state.kept)
 }
 
 // Ends a row file: what is said of bytes after the last newline, or of a file without a first line, at the start of out; or usize::MAX, and nothing

@@ -11,13 +11,14 @@ ghost use Rattle.woldgrater_service.specs.Line.{LineLeft};
 ghost use Rattle.woldgrater_service.specs.Shown.{economizer_shown};
 
 use crate::line::LineGiven;
-use econ_lines::econ::write_econ_row;
+use econ_lines::econ::EconLines;
 use econ_words::economizer::EconomizerWords;
 use econ_words::economizer_row::EconomizerRowWords;
 use econ_words::economizer_signals::EconomizerSignalsWords;
 use economizer_controller::step::economizer_signals;
 use economizer_controller::types::{EconomizerRow, EconomizerState};
 use economizer_controller::verdict::economizer_verdict;
+use row_writer::write_row;
 
 // The status of a row, and what the commands of an accepted one are worked from.
 #[repr(C)]
@@ -56,5 +57,5 @@ pub fn woldgrater_econ_line(row: EconomizerRowWords, out: &mut [u8]) -> LineGive
     ensures line_left { LineLeft (write_row econ_kind (economizer_row_of row) out.old 0) result out.new }
     ensures reads_back { ReadsBack econ_kind (economizer_row_of row) }
 {
-    LineGiven::from(write_econ_row(out, 0, EconomizerRow::from(row)))
+    LineGiven::from(write_row::<EconLines, _, _>(out, 0, EconomizerRow::from(row)))
 }

@@ -11,7 +11,7 @@ ghost use Rattle.woldgrater_service.specs.Line.{LineLeft};
 ghost use Rattle.woldgrater_service.specs.Shown.{freeze_shown};
 
 use crate::line::LineGiven;
-use freeze_lines::freeze::write_freeze_row;
+use freeze_lines::freeze::FreezeLines;
 use freeze_protection::left::freeze_left;
 use freeze_protection::signals::freeze_signals;
 use freeze_protection::types::{FreezeRow, FreezeState};
@@ -20,6 +20,7 @@ use freeze_words::freeze::FreezeWords;
 use freeze_words::freeze_left::FreezeLeftWords;
 use freeze_words::freeze_row::FreezeRowWords;
 use freeze_words::freeze_signals::FreezeSignalsWords;
+use row_writer::write_row;
 
 // The status of a row, and what the commands of an accepted one are worked from.
 // Beside it the seconds left on its timers.
@@ -64,5 +65,5 @@ pub fn woldgrater_freeze_line(row: FreezeRowWords, out: &mut [u8]) -> LineGiven
     ensures line_left { LineLeft (write_row freeze_kind (freeze_row_of row) out.old 0) result out.new }
     ensures reads_back { ReadsBack freeze_kind (freeze_row_of row) }
 {
-    LineGiven::from(write_freeze_row(out, 0, FreezeRow::from(row)))
+    LineGiven::from(write_row::<FreezeLines, _, _>(out, 0, FreezeRow::from(row)))
 }

@@ -11,10 +11,7 @@ use row_reader::feed::{feed, finish};
 fn kept_of(kept: usize) -> usize
     ensures { KeptOf kept result }
 {
-    if kept < 256 {
-        return kept;
-    }
-    256
+    kept.min(256)
 }
 
 // Helper. A chunk, into an output with room for its answers.
@@ -24,24 +21,22 @@ pub fn feed_lent(
     line: &mut [u8; 256],
     times: &mut [f64; 512],
     integrals: &mut [f64; 512],
-    reader: RowReader,
+    reader: &mut RowReader,
     kept: usize,
 ) -> Fed
     requires { room (length chunk.now) ≤ length out.old }
-    ensures { FedTo (carried reader times.old integrals.old)
+    ensures { FedTo (carried reader.old times.old integrals.old)
         (take kept line.old) chunk.now out.old
-        (carried result.reader times.new integrals.new) line.new result.len
+        (carried reader.new times.new integrals.new) line.new result.len
         out.new result.sent }
 {
-    let had = kept_of(kept);
-    feed(chunk, line, out, times, integrals, reader, had)
+    feed(chunk, line, out, times, integrals, reader, kept_of(kept))
 }
 
 // Helper. The end of a row file, into an output with room for a status line.
-pub fn finish_lent(out: &mut [u8], line: &[u8; 256], reader: RowReader, kept: usize) -> usize
+pub fn finish_lent(out: &mut [u8], line: &[u8; 256], reader: &RowReader, kept: usize) -> usize
     requires { status_length ≤ length out.old }
-    ensures { Finished reader (take kept line.now) out.old out.new result }
+    ensures { Finished reader.now (take kept line.now) out.old out.new result }
 {
-    let had = kept_of(kept);
-    finish(reader, line, had, out)
+    finish(reader, line, kept_of(kept), out)
 }

@@ -2,7 +2,7 @@
 ghost use Rattle.std.specs.Prelude.{◌≡◌};
 ghost use Rattle.woldgrater_service.specs.Line.{line_given};
 
-use row_writer::RowWritten;
+use refusals::Refusal;
 
 // The status, and the number of bytes written.
 #[repr(C)]
@@ -12,17 +12,17 @@ pub struct LineGiven {
     pub len: usize,
 }
 
-impl From<RowWritten> for LineGiven {
+impl From<Result<usize, Refusal>> for LineGiven {
     ghost from_gives = { λ written given. given ≡ line_given written };
 
     #[tactic(auto, unfolding(crate::specs::Line::line_given))]
-    fn from(written: RowWritten) -> Self {
+    fn from(written: Result<usize, Refusal>) -> Self {
         match written {
-            RowWritten::Line(end) => LineGiven {
+            Ok(end) => LineGiven {
                 status: 0,
                 len: end,
             },
-            RowWritten::Refused(refusal) => LineGiven {
+            Err(refusal) => LineGiven {
                 status: refusal.number(),
                 len: 0,
             },

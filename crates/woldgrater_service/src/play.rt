@@ -15,7 +15,7 @@ fn play(rows: &[u8], out: &mut [u8]) -> usize
     let mut line = [0u8; 256];
     let mut times = [0.0; 512];
     let mut integrals = [0.0; 512];
-    let reader = fresh_at(Phase::First);
+    let mut reader = fresh_at(Phase::First);
     let answers = STATUS_LENGTH * (256 + rows.len());
     let fed = feed(
         rows,
@@ -23,14 +23,11 @@ fn play(rows: &[u8], out: &mut [u8]) -> usize
         &mut out[..answers],
         &mut times,
         &mut integrals,
-        reader,
+        &mut reader,
         0,
     );
-    let sent = fed.sent;
-    let kept = fed.len;
-    let last = fed.reader;
-    let said = finish(last, &line, kept, &mut out[sent..]);
-    sent + said
+    let said = finish(&reader, &line, fed.len, &mut out[fed.sent..]);
+    fed.sent + said
 }
 
 // Plays a whole row file from a fresh start: its output at the start of out, and its length; or usize::MAX, and nothing written, where out is too

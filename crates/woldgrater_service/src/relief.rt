@@ -16,10 +16,11 @@ use relief_fan_group::remembered::relief_alarm;
 use relief_fan_group::signals::relief_signals;
 use relief_fan_group::types::{ReliefBlocks, ReliefRow};
 use relief_fan_group::verdict::relief_verdict;
-use relief_lines::relief::write_relief_row;
+use relief_lines::relief::ReliefLines;
 use relief_words::relief_left::ReliefLeftWords;
 use relief_words::relief_row::ReliefRowWords;
 use relief_words::relief_signals::ReliefSignalsWords;
+use row_writer::write_row;
 use woldgrater::relief::ReliefWords;
 
 // The status of a row, and what the commands of an accepted one are worked from.
@@ -91,5 +92,5 @@ pub fn woldgrater_relief_line(row: ReliefRowWords, out: &mut [u8]) -> LineGiven
     ensures line_left { LineLeft (write_row relief_kind (relief_row_of row) out.old 0) result out.new }
     ensures reads_back { ReadsBack relief_kind (relief_row_of row) }
 {
-    LineGiven::from(write_relief_row(out, 0, ReliefRow::from(row)))
+    LineGiven::from(write_row::<ReliefLines, _, _>(out, 0, ReliefRow::from(row)))
 }

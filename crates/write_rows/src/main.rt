@@ -7,10 +7,12 @@
 ghost use Rattle.std.specs.Prelude.{◌+◌, ◌*◌, ◌≤◌, ◌<◌, ◌≡◌, length};
 
 use columns::line::write_status_line;
-use econ_lines::econ::{econ_row_of, write_econ_row};
-use freeze_lines::freeze::{freeze_row_of, write_freeze_row};
-use relief_lines::relief::{relief_row_of, write_relief_row};
-use row_writer::RowWritten;
+use econ_lines::econ::EconLines;
+use freeze_lines::freeze::FreezeLines;
+use refusals::Refusal;
+use relief_lines::relief::ReliefLines;
+use row_writer::lines::RowLines;
+use row_writer::write_row;
 use std::io;
 use std::io::{ErrorKind, Read};
 
@@ -64,14 +66,16 @@ fn room_of(word: u64) -> usize
 }
 
 // A row of a kind, written from a place on.
-fn write_by(kind: u64, out: &mut [u8], at: usize, words: [u64; 12]) -> RowWritten {
-    if kind == 0 {
-        return write_freeze_row(out, at, freeze_row_of(words));
+fn write_by(kind: u64, out: &mut [u8], at: usize, words: [u64; 12]) -> Result<usize, Refusal> {
+    match kind {
+        0 => write_row::<FreezeLines, _, _>(out, at, FreezeLines::row_of(&words)),
+        1 => write_row::<ReliefLines, _, _>(out, at, ReliefLines::row_of(&words)),
+        _ => {
+            let [time, flow, setpoint, signal, outdoor, fan, mode, stage, ..] = words;
+            let row = EconLines::row_of(&[time, flow, setpoint, signal, outdoor, fan, mode, stage]);
+            write_row::<EconLines, _, _>(out, at, row)
+        }
     }
-    if kind == 1 {
-        return write_relief_row(out, at, relief_row_of(words));
-    }
-    write_econ_row(out, at, econ_row_of(words))
 }
 
 // Prints a number as a line.
@@ -82,13 +86,13 @@ fn print_number(rt: &impl Print, n: u64) -> io::Result<()> {
 }
 
 // Prints the status and the place after the line, 0 where the row is refused.
-fn print_answer(rt: &impl Print, written: RowWritten) -> io::Result<()> {
+fn print_answer(rt: &impl Print, written: Result<usize, Refusal>) -> io::Result<()> {
     match written {
-        RowWritten::Line(next) => {
+        Ok(next) => {
             print_number(rt, 0)?;
             print_number(rt, next as u64)
         }
-        RowWritten::Refused(refusal) => {
+        Err(refusal) => {
             print_number(rt, refusal.number())?;
             print_number(rt, 0)
         }

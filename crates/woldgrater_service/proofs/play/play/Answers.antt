@@ -13,7 +13,7 @@ returns c =
     let first = c.feed-fed.new.out in
     let sent = c.feed-fed.result.sent in
     let X : List ℕ = first ++ beyond in
-    played c.fresh_at-reader.result c.feed-fed.result.reader c.fresh_at-reader.ensures _ _ _ _ _ _ _ _ _ first beyond (take (length X - sent) (drop sent X)) _ _ sent _
+    played c.fresh_at-reader.result c.feed-fed.new.reader c.fresh_at-reader.ensures _ _ _ _ _ _ _ _ _ first beyond (take (length X - sent) (drop sent X)) _ _ sent _
     (take-append-drop answers c.args.out.now)
     c.feed-fed.ensures.fed
     c.feed-fed.auto.out
