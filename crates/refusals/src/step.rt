@@ -12,7 +12,11 @@ pub struct Step<C, S> {
 
 // Helper: a row with this verdict. What it is worked by, commands and the next state, is asked for only where the row is accepted; where it is refused the old state is
 // handed back.
-pub fn step_by<C, S: Copy, F: FnOnce() -> (C, S)>(verdict: Verdict, state: S, accepted: F) -> Step<C, S>
+pub fn step_by<C, S: Copy, F: FnOnce() -> (C, S)>(
+    verdict: Verdict,
+    state: S,
+    accepted: F,
+) -> Step<C, S>
     requires { F.pre accepted }
     ensures { Stepped (F.post accepted) verdict state result }
 {
