@@ -4,7 +4,7 @@
 // which is not cleared between.
 #![tactic(auto)]
 
-ghost use Rattle.std.specs.Prelude.{◌+◌, ◌*◌, ◌≤◌, ◌<◌, ◌≡◌, length};
+ghost use Rattle.std.specs.Prelude.{◌≡◌, length};
 
 use columns::line::write_status_line;
 use econ_lines::econ::EconLines;
@@ -13,59 +13,19 @@ use refusals::Refusal;
 use relief_lines::relief::ReliefLines;
 use row_writer::lines::RowLines;
 use row_writer::write_row;
-use std::io;
 use std::io::{ErrorKind, Read};
+use std::{array, io};
 
-fn wide(byte: u8) -> u64
-    ensures { result < 256 }
-{
-    byte as u64
+// The words of a record.
+fn words_of(bytes: &[u8; 120]) -> [u64; 15] {
+    array::from_fn(|k| {
+        let mut word = [0; 8];
+        word.copy_from_slice(&bytes[8 * k..8 * k + 8]);
+        u64::from_le_bytes(word)
+    })
 }
 
-// The word k of a record.
-fn word_at(bytes: &[u8], k: usize) -> u64
-    requires { 8 * k + 8 ≤ length bytes.now }
-{
-    let mut word: u64 = 0;
-    let mut i: usize = 8;
-    while i > 0 {
-        i -= 1;
-        word = word % 72057594037927936 * 256 + wide(bytes[8 * k + i]);
-    }
-    word
-}
-
-// The words of the row.
-fn row_words(bytes: &[u8]) -> [u64; 12]
-    requires { length bytes.now ≡ 120 }
-{
-    [
-        word_at(bytes, 3),
-        word_at(bytes, 4),
-        word_at(bytes, 5),
-        word_at(bytes, 6),
-        word_at(bytes, 7),
-        word_at(bytes, 8),
-        word_at(bytes, 9),
-        word_at(bytes, 10),
-        word_at(bytes, 11),
-        word_at(bytes, 12),
-        word_at(bytes, 13),
-        word_at(bytes, 14),
-    ]
-}
-
-// As many bytes as a record says, up to 512.
-fn room_of(word: u64) -> usize
-    ensures { result ≤ 512 }
-{
-    if word < 512 {
-        return word as usize;
-    }
-    512
-}
-
-// A row of a kind, written from a place on.
+// A row of a kind, by its number in the record, written from a place on.
 fn write_by(kind: u64, out: &mut [u8], at: usize, words: [u64; 12]) -> Result<usize, Refusal> {
     match kind {
         0 => write_row::<FreezeLines, _, _>(out, at, FreezeLines::row_of(&words)),
@@ -87,33 +47,27 @@ fn print_number(rt: &impl Print, n: u64) -> io::Result<()> {
 
 // Prints the status and the place after the line, 0 where the row is refused.
 fn print_answer(rt: &impl Print, written: Result<usize, Refusal>) -> io::Result<()> {
-    match written {
-        Ok(next) => {
-            print_number(rt, 0)?;
-            print_number(rt, next as u64)
-        }
-        Err(refusal) => {
-            print_number(rt, refusal.number())?;
-            print_number(rt, 0)
-        }
-    }
+    let (status, next) = match written {
+        Ok(next) => (0, next as u64),
+        Err(refusal) => (refusal.number(), 0),
+    };
+    print_number(rt, status)?;
+    print_number(rt, next)
 }
 
 // Writes the row of a record into the first bytes of a buffer, as many as it says, and prints what became of it and the whole buffer.
-fn print_row(rt: &impl Print, bytes: &[u8], out: &mut [u8]) -> io::Result<()>
-    requires { (length bytes.now ≡ 120) × (length out.old ≡ 512) }
-{
-    let len = room_of(word_at(bytes, 1));
-    let kind = word_at(bytes, 0);
-    let at = word_at(bytes, 2) as usize;
-    let words = row_words(bytes);
-    let written = write_by(kind, &mut out[..len], at, words);
+fn print_row(rt: &impl Print, bytes: &[u8; 120], out: &mut [u8; 512]) -> io::Result<()> {
+    let record = words_of(bytes);
+    let [kind, room, at, ..] = record;
+    let len = room.min(512) as usize;
+    let row = array::from_fn(|k| record[3 + k]);
+    let written = write_by(kind, &mut out[..len], at as usize, row);
     print_answer(rt, written)?;
     rt.write_all(out)
 }
 
 // Reads a record, and tells whether the input had all of it.
-fn is_read(rt: &impl Input, bytes: &mut [u8]) -> io::Result<bool> {
+fn is_read(rt: &impl Input, bytes: &mut [u8; 120]) -> io::Result<bool> {
     match rt.reader().read_exact(bytes) {
         Ok(()) => Ok(true),
         Err(e) if e.kind() == ErrorKind::UnexpectedEof => Ok(false),
@@ -122,20 +76,14 @@ fn is_read(rt: &impl Input, bytes: &mut [u8]) -> io::Result<bool> {
 }
 
 // Record after record. Nothing says that an input ends, so the records are counted, up to a number that no run uses up.
-fn run(rt: &(impl Input + Print), bytes: &mut [u8], out: &mut [u8]) -> io::Result<()>
-    requires { (length bytes.old ≡ 120) × (length out.old ≡ 512) }
-{
+fn main(rt: HostRuntime) -> io::Result<()> {
+    let mut bytes = [0; 120];
+    let mut out = [0; 512];
     for _ in 0..u64::MAX {
-        if !is_read(rt, bytes)? {
+        if !is_read(&rt, &mut bytes)? {
             break;
         }
-        print_row(rt, bytes, out)?;
+        print_row(&rt, &bytes, &mut out)?;
     }
     Ok(())
-}
-
-fn main(rt: HostRuntime) -> io::Result<()> {
-    let mut bytes = [0u8; 120];
-    let mut out = [0u8; 512];
-    run(&rt, &mut bytes, &mut out)
 }
