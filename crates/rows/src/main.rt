@@ -1,8 +1,8 @@
-// Reads a row file from standard input and writes its answers to standard output . What came is answered and written
+// Reads a row file from standard input and writes its answers to standard output. What came is answered and written
 // before more is read, so it serves a pipe. Where reading or writing fails it says so on standard error, and stops; its exit status is 0 then too.
 #![tactic(auto)]
 
-ghost use Rattle.std.specs.Prelude.{◌≡◌, ◌≤◌, length};
+ghost use Rattle.std.specs.Prelude.{◌≤◌, length};
 ghost use Rattle.row_kinds.specs.Rows.{Lent};
 ghost use Rattle.rows.specs.Turns.{TurnLeft};
 
@@ -12,7 +12,8 @@ use row_reader::feed::{feed, finish};
 use std::io;
 use std::io::Read;
 
-// The bytes kept of a line after a turn, whether all answers were written, and whether there is a next turn.
+// The bytes kept of a line after a turn, whether all answers were written, and whether there is a next turn. They are two flags, and no Result, since what is
+// proved of a turn speaks of both.
 #[derive(Clone, Copy)]
 struct Turned {
     len: usize,
@@ -116,24 +117,12 @@ fn play(
     }
 }
 
-// The bytes read at a time.
-fn input_buffer() -> [u8; 8192]
-    ensures { 8192 ≡ length result }
-{
-    [0; 8192]
-}
-
-// Room for the answers to a chunk: an answer has at most 22 bytes for each byte of its line, newline included, and 256 bytes of a line may have been kept before.
-fn output_buffer() -> [u8; 185856]
-    ensures { 185856 ≡ length result }
-{
-    [0; 185856]
-}
-
 fn main(rt: HostRuntime) {
-    let mut buffer = input_buffer();
-    let mut line = [0u8; 256];
-    let mut out = output_buffer();
+    // The bytes read at a time, and room for the answers to them: an answer has at most 22 bytes for each byte of its line, newline included, and 256 bytes of a
+    // line may have been kept before.
+    let mut buffer = [0; 8192];
+    let mut line = [0; 256];
+    let mut out = [0; 22 * (256 + 8192)];
     let mut times = [0.0; 512];
     let mut integrals = [0.0; 512];
     play(
