@@ -54,12 +54,13 @@ class Sources(Names):
         return [(length, what) for (name, length), all_what in sorted(self.lists.items()) if name == kind.name for what in sorted(all_what)]
 
     def list_made(self, kind, length, what):
-        """A list made over: by a function, since of a struct with eight of them the check does not find the proof; and by `from_fn`, since `map` needs
-        more of the stack."""
+        """A list made over: by a function, since of a struct with eight of them the check does not find the proof; and by `from_fn`, since with `map`
+        a relief row needs a third more of the stack."""
         name, argument = self.list_call(kind, length, what), 'values' if what == 'of' else 'words'
         given, made = (kind.typed, kind.words) if what == 'of' else (kind.words, kind.typed)
-        return ['', '#[inline(always)]', f'pub fn {name}({argument}: [{given}; {length}]) -> [{made}; {length}]',
-                f'    ensures {{ result ≡ map {kind.to if what == "of" else kind.back} {argument} }}', '{', f'    array::from_fn(|i| {made}::from({argument}[i]))', '}']
+        return ['', f'pub fn {name}({argument}: [{given}; {length}]) -> [{made}; {length}]',
+                f'    ensures {{ result ≡ map {kind.to if what == "of" else kind.back} {argument} }}', '{',
+                f'    array::from_fn(|i| {made}::from({argument}[i]))', '}']
 
     def conversion(self, given, made, gives, kind, what, body):
         """An `impl From`. Its proof opens the definitions, the rest is found. The compiler takes it into its caller: else a call of the archives

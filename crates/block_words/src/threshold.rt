@@ -45,14 +45,12 @@ impl From<ThresholdWords> for ThresholdState {
     }
 }
 
-#[inline(always)]
 pub fn threshold_words_of_four(values: [ThresholdState; 4]) -> [ThresholdWords; 4]
     ensures { result ≡ map threshold_words values }
 {
     array::from_fn(|i| ThresholdWords::from(values[i]))
 }
 
-#[inline(always)]
 pub fn threshold_values_of_four(words: [ThresholdWords; 4]) -> [ThresholdState; 4]
     ensures { result ≡ map threshold_of words }
 {

@@ -42,7 +42,6 @@ impl From<TrueDelayOnInitWords> for TrueDelayOnInitState {
     }
 }
 
-#[inline(always)]
 pub fn true_delay_on_init_words_of_four(
     values: [TrueDelayOnInitState; 4],
 ) -> [TrueDelayOnInitWords; 4]
@@ -51,7 +50,6 @@ pub fn true_delay_on_init_words_of_four(
     array::from_fn(|i| TrueDelayOnInitWords::from(values[i]))
 }
 
-#[inline(always)]
 pub fn true_delay_on_init_values_of_four(
     words: [TrueDelayOnInitWords; 4],
 ) -> [TrueDelayOnInitState; 4]
