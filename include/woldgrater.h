@@ -92,7 +92,8 @@ struct woldgrater_freeze_row {
     double mixed_air_temperature;
 };
 
-/* The outputs, in the order of Trace. */
+/* The outputs, in the order of Trace. Stage, request and alarm level are numbers, as the model, row lines and C
+ * have them. */
 struct woldgrater_freeze_commands {
     uint64_t freeze_protection_stage;
     uint64_t chilled_water_pump_enable;                     /* flag */
@@ -172,7 +173,7 @@ struct woldgrater_econ_state {
 };
 
 /* A sampled row: its time in seconds, and Row. Airflows are normalized, the temperature is in kelvin. Mode 1 is
- * occupied; stage 0 is no freeze protection. */
+ * occupied; stage 0 is no freeze protection. Both are numbers, of which any is accepted. */
 struct woldgrater_econ_row {
     double time;
     double outdoor_airflow_normalized;
@@ -257,7 +258,7 @@ struct woldgrater_relief_row {
     uint64_t proof[4];                                      /* flag */
 };
 
-/* The outputs, in the order of Trace. */
+/* The outputs, in the order of Trace. Speeds and dampers have the names that C gives them. */
 struct woldgrater_relief_commands {
     double averaged_pressure;
     double fan_speed_1;

@@ -60,7 +60,9 @@ fn after_minus(text: &[u8]) -> (bool, &[u8])
     }
 }
 
-// The number of any column, byte by byte: spaces, at most one minus, and digits with no leading zero up to its end, of a number below 2^64.
+// The number of any column, byte by byte: spaces, at most one minus, and digits with no leading zero up to its end, of a number below 2^64. It is kept a
+// call of its own, so that the columns that rows mostly hold are read with fewer registers put aside.
+#[inline(never)]
 fn scan_bytes(column: &[u8; 21]) -> Option<Number>
     ensures { result ≡ scan column.now }
 {

@@ -5,6 +5,7 @@ use refusals::Refusal;
 use refusals::step::Step;
 
 // A sampled row: its time in seconds, and `Row`. Airflows are normalized, the temperature is in kelvin. Mode 1 is occupied; stage 0 is no freeze protection.
+// Both are numbers, of which any is accepted.
 #[derive(Clone, Copy)]
 pub struct EconomizerRow {
     pub time: f64,

@@ -95,7 +95,7 @@ pub struct FreezeLeft {
     pub tim5: f64,
 }
 
-// The outputs, in the order of `Trace`.
+// The outputs, in the order of `Trace`. Stage, request and alarm level are numbers, as the model, row lines and C have them.
 #[derive(Clone, Copy)]
 pub struct FreezeCommands {
     pub freeze_protection_stage: u64,

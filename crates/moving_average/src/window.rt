@@ -45,7 +45,7 @@ pub fn slot(n: usize, same: bool) -> usize
     if same { n.saturating_sub(1) } else { n }
 }
 
-// The j entries from k on come to the front, and the entries past them stay.
+// The j entries from k on come to the front, and the entries past them stay. They overlap, and the library has no move of a slice within itself.
 #[inline(always)]
 fn shift(a: &mut [f64; 512], k: usize, j: usize)
     requires { k + j ≤ 512 }

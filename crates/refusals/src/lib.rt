@@ -23,7 +23,7 @@ pub enum Refusal {
 pub type Verdict = Result<(), Refusal>;
 
 impl Refusal {
-    // The papers' number of the refusal: the status of a row line.
+    // The papers' number of the refusal: the status of a row line. A method and no `From`, since its name says what the number is.
     #[tactic(auto, unfolding(crate::specs::Refusals::refusal_number))]
     pub fn number(self) -> u64
         ensures { result ≡ refusal_number self }

@@ -3,12 +3,11 @@ ghost use Rattle.std.specs.Prelude.{◌≡◌};
 ghost use Rattle.relief_fan_group.specs.Remembered.{relief_alarm};
 
 use crate::types::ReliefBlocks;
-use relief_fans::alarms::wide;
 
 // The alarm of a fan, by its index from 0 to 3, at the last accepted row, 0 before any row; None for another index, since there are four fans.
 #[tactic(auto, unfolding(crate::specs::Remembered::relief_alarm))]
 pub fn relief_alarm(blocks: ReliefBlocks, fan: usize) -> Option<i64>
     ensures { result ≡ relief_alarm blocks fan }
 {
-    blocks.alarms.get(fan).map(|&byte| wide(byte))
+    blocks.alarms.get(fan).map(|&byte| i64::from(byte))
 }

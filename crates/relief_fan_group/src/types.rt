@@ -118,7 +118,7 @@ pub struct ReliefLeft {
     pub dow_tim: f64,
 }
 
-// The outputs, in the order of `Trace`.
+// The outputs, in the order of `Trace`. Speeds and dampers have the names that C gives them.
 #[derive(Clone, Copy)]
 pub struct ReliefCommands {
     pub averaged_pressure: f64,

@@ -17,13 +17,6 @@ pub fn alarms_fit(alarm: [i64; 4]) -> bool
     alarm.iter().all(|&alarm| fits_byte(alarm))
 }
 
-// The number that a signed byte holds.
-pub fn wide(byte: i8) -> i64
-    ensures { result ≡ byte }
-{
-    i64::from(byte)
-}
-
 // The alarm in a signed byte; 0 for one that does not fit, which no accepted row has.
 #[tactic(auto, unfolding(crate::specs::Alarms::alarm_byte))]
 pub fn alarm_byte(alarm: i64) -> i8

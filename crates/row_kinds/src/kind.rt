@@ -18,7 +18,7 @@ pub enum Phase {
     Stopped,
 }
 
-// What follows a first line, without its newline.
+// What follows a first line, without its newline. Tests in turn, and no `match` on the bytes: an arm would tell the prover no more than the length.
 #[tactic(auto, using(crate::proofs::Words::word_is, crate::proofs::Words::word_is_not), unfolding(crate::specs::Kind::phase_after))]
 pub fn phase_after(line: &[u8]) -> Phase
     ensures { result ≡ phase_after line.now }

@@ -62,6 +62,7 @@ fn answer_lines<K: RowLines<N, M>, const N: usize, const M: usize>(
         (K.held state.new times.new integrals.new) result.rest out.new result.at }
     ensures window { WindowLeft K.has_window times.old integrals.old times.new integrals.new }
 {
+    // From newline to newline, as `line_end` finds them: `split` would look at each byte by itself.
     let mut sent = at;
     let mut i: usize = 0;
     let mut j = first;

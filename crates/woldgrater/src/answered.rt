@@ -7,6 +7,7 @@ use refusals::Refusal;
 // The status of a row, and the commands of an accepted one.
 #[derive(Clone, Copy)]
 pub struct Answered<W> {
+    // 0, or the number of the refusal: C has no Result.
     pub status: u64,
     pub commands: W,
 }

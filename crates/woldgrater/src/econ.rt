@@ -20,6 +20,7 @@ use economizer_controller::types::{EconomizerRow, EconomizerState};
 #[derive(Clone, Copy)]
 pub struct EconomizerGiven {
     pub state: EconomizerWords,
+    // 0, or the number of the refusal: C has no Result.
     pub status: u64,
     pub commands: EconomizerCommandsWords,
 }

@@ -19,6 +19,7 @@ use freeze_words::freeze_row::FreezeRowWords;
 #[derive(Clone, Copy)]
 pub struct FreezeGiven {
     pub state: FreezeWords,
+    // 0, or the number of the refusal: C has no Result.
     pub status: u64,
     pub commands: FreezeCommandsWords,
 }

@@ -28,6 +28,7 @@ pub struct ReliefWords {
 #[derive(Clone, Copy)]
 pub struct ReliefGiven {
     pub state: ReliefWords,
+    // 0, or the number of the refusal: C has no Result.
     pub status: u64,
     pub commands: ReliefCommandsWords,
 }

@@ -31,6 +31,7 @@ pub struct ChunkFed {
 pub struct Fed {
     pub state: State,
     pub sent: usize,
+    // 1 or 0: a flag of C.
     pub stopped: u64,
 }
 
@@ -106,6 +107,7 @@ pub fn woldgrater_feed(
     }
     Fed {
         state,
+        // C has no Option: no output has this length.
         sent: usize::MAX,
         stopped: stopped_word(state),
     }
@@ -125,6 +127,7 @@ pub fn woldgrater_finish(out: &mut [u8], line: &[u8; 256], state: State) -> usiz
     ensures { EndedOrRefused state line.now out.old out.new result }
 {
     if out.len() < STATUS_LENGTH {
+        // C has no Option: no output has this length.
         return usize::MAX;
     }
     end_file(out, line, state)

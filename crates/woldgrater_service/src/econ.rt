@@ -24,6 +24,7 @@ use row_writer::write_row;
 #[repr(C)]
 #[derive(Clone, Copy)]
 pub struct EconomizerShown {
+    // 0, or the number of the refusal: C has no Result.
     pub status: u64,
     pub signals: EconomizerSignalsWords,
 }

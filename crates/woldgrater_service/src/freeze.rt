@@ -27,6 +27,7 @@ use row_writer::write_row;
 #[repr(C)]
 #[derive(Clone, Copy)]
 pub struct FreezeShown {
+    // 0, or the number of the refusal: C has no Result.
     pub status: u64,
     pub signals: FreezeSignalsWords,
     pub left: FreezeLeftWords,

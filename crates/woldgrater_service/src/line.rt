@@ -8,6 +8,7 @@ use refusals::Refusal;
 #[repr(C)]
 #[derive(Clone, Copy)]
 pub struct LineGiven {
+    // 0, or the number of the refusal: C has no Result.
     pub status: u64,
     pub len: usize,
 }

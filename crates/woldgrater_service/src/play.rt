@@ -38,5 +38,6 @@ pub fn woldgrater_play(rows: &[u8], out: &mut [u8]) -> usize
     if has_room(out.len(), rows.len()) {
         return play(rows, out);
     }
+    // C has no Option: no output has this length.
     usize::MAX
 }

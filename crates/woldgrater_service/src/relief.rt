@@ -28,6 +28,7 @@ use woldgrater::relief::ReliefWords;
 #[repr(C)]
 #[derive(Clone, Copy)]
 pub struct ReliefShown {
+    // 0, or the number of the refusal: C has no Result.
     pub status: u64,
     pub signals: ReliefSignalsWords,
     pub left: ReliefLeftWords,
@@ -70,6 +71,7 @@ pub fn woldgrater_relief_signals<'a>(
 #[repr(C)]
 #[derive(Clone, Copy)]
 pub struct AlarmGiven {
+    // 1 or 0: C has no Option.
     pub known: u64,
     pub alarm: i64,
 }
