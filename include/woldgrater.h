@@ -92,8 +92,7 @@ struct woldgrater_freeze_row {
     double mixed_air_temperature;
 };
 
-/* The outputs, in the order of Trace. Stage, request and alarm level are numbers, as the model, row lines and C
- * have them. */
+/* The outputs, in the order of Trace. */
 struct woldgrater_freeze_commands {
     uint64_t freeze_protection_stage;
     uint64_t chilled_water_pump_enable;                     /* flag */
@@ -173,7 +172,7 @@ struct woldgrater_econ_state {
 };
 
 /* A sampled row: its time in seconds, and Row. Airflows are normalized, the temperature is in kelvin. Mode 1 is
- * occupied; stage 0 is no freeze protection. Both are numbers, of which any is accepted. */
+ * occupied; stage 0 is no freeze protection. */
 struct woldgrater_econ_row {
     double time;
     double outdoor_airflow_normalized;
@@ -258,7 +257,7 @@ struct woldgrater_relief_row {
     uint64_t proof[4];                                      /* flag */
 };
 
-/* The outputs, in the order of Trace. Speeds and dampers have the names that C gives them. */
+/* The outputs, in the order of Trace. */
 struct woldgrater_relief_commands {
     double averaged_pressure;
     double fan_speed_1;

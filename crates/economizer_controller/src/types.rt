@@ -5,7 +5,6 @@ use refusals::Refusal;
 use refusals::step::Step;
 
 // A sampled row: its time in seconds, and `Row`. Airflows are normalized, the temperature is in kelvin. Mode 1 is occupied; stage 0 is no freeze protection.
-// Both are numbers, of which any is accepted.
 #[derive(Clone, Copy)]
 pub struct EconomizerRow {
     pub time: f64,
@@ -14,6 +13,7 @@ pub struct EconomizerRow {
     pub supply_temperature_signal: f64,
     pub outdoor_air_temperature: f64,
     pub supply_fan_status: bool,
+    // Numbers, of which any is accepted.
     pub operation_mode: i64,
     pub freeze_protection_stage: i64,
 }

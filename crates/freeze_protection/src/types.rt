@@ -95,9 +95,10 @@ pub struct FreezeLeft {
     pub tim5: f64,
 }
 
-// The outputs, in the order of `Trace`. Stage, request and alarm level are numbers, as the model, row lines and C have them.
+// The outputs, in the order of `Trace`.
 #[derive(Clone, Copy)]
 pub struct FreezeCommands {
+    // Stage, request and alarm level are numbers, as the model, row lines and C have them.
     pub freeze_protection_stage: u64,
     pub chilled_water_pump_enable: bool,
     pub return_damper_command: f64,

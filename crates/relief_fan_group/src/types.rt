@@ -118,10 +118,11 @@ pub struct ReliefLeft {
     pub dow_tim: f64,
 }
 
-// The outputs, in the order of `Trace`. Speeds and dampers have the names that C gives them.
+// The outputs, in the order of `Trace`.
 #[derive(Clone, Copy)]
 pub struct ReliefCommands {
     pub averaged_pressure: f64,
+    // Speeds and dampers by name: C's record is written from these.
     pub fan_speed_1: f64,
     pub fan_speed_2: f64,
     pub fan_speed_3: f64,
