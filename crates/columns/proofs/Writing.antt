@@ -1,133 +1,94 @@
 -- Texts written into a buffer: digit by digit, and one after another. Assumes nothing.
 use Prim.Native.Nat.{ℕ, zero, suc, ◌+◌, ◌-◌, ◌*◌, ◌/◌, ◌%◌, ◌^◌, ◌≤◌, ◌<◌}
-use mathlib.Core.Path.{◌≡◌, refl, sym, ap, ◌∙◌, subst}
+use mathlib.Core.Path.{◌≡◌, refl, sym, ap, ap₂, ◌∙◌, subst}
 use mathlib.Core.List.{List, [], ◌∷◌, ◌++◌, append_assoc, append-nil}
-use mathlib.Core.Bool.{Bool, true, false, cond}
+use mathlib.Core.Bool.{Bool}
 use native.Mathlib.Omega.{arith}
 use native.Mathlib.Nat.{pow-suc, mul_assoc, mul-pos, one-le-pow}
 use native.Mathlib.Numerals.{add-one}
-use lib.ListN.{length, take, drop, set, replicate, length-set, length-replicate, length-append, length-drop}
-use lib.Seq.{take-set-le, set_split, take_at, drop_at, drop-drop, append_snoc, length-take-le, paste-zero}
-use lib.Dec.{ltb}
+use lib.ListN.{length, take, drop, set, replicate, length-append, length-drop}
+use lib.Seq.{set_split, take_at, drop_at, drop-drop, drop-length, append_snoc, length-take-le}
 use borrow.Author.Tests.{lt-ltb, le-ltb}
 use Rattle.std.specs.Int.{to_le_bytes}
 use mir.Syntax.{w64}
-use Rattle.columns.specs.Column.{mark, pad, text, digits, column, over, Wrote}
-use Rattle.columns.proofs.Scanning.{length_pad, length_text, replicate_snoc}
+use Rattle.columns.specs.Column.{mark, text, digits, column, over, Wrote}
 
--- ---- a number written from its last digit on: the stores that are left
+-- ---- a number written from its last digit on
 
--- spaces in the k places from at on
-abbrev pub fill_to : List ℕ → ℕ → ℕ → List ℕ
-fill_to l at zero = l
-fill_to l at (suc k) = fill_to (set l (at + k) 32) at k
+-- the last of k + 1 spaces made another byte
+pub set_last : (k x : ℕ) (r : List ℕ) → set (replicate (suc k) 32 ++ r) k x ≡ replicate k 32 ++ (x ∷ r)
+set_last zero x r = refl
+set_last (suc k) x r = ap (λ (l : List ℕ). 32 ∷ l) (set_last k x r)
 
--- a mark before the place at + k, and spaces before it
-abbrev pad_to : List ℕ → ℕ → ℕ → ℕ → List ℕ
-pad_to l at m zero = l
-pad_to l at m (suc k) = fill_to (set l (at + k) m) at k
+text_more : (m w n : ℕ) → 10 ≤ n → text m (suc w) n ≡ text m w (n / 10) ++ ((48 + n % 10) ∷ [])
+text_more m w n h = simp (le-ltb _ _ h)
 
--- the digits of n before the place at + k, and the mark and the spaces before them
-abbrev pub put_to : List ℕ → ℕ → ℕ → ℕ → ℕ → List ℕ
-put_to l at m zero n = l
-put_to l at m (suc k) n =
-    cond (ltb n 10) (pad_to (set l (at + k) (48 + n % 10)) at m k) (put_to (set l (at + k) (48 + n % 10)) at m k (n / 10))
-
-module _ (l : List ℕ) (at : ℕ) where
-  pad_step : (m k : ℕ) → 0 < k → pad_to l at m k ≡ fill_to (set l (at + (k - 1)) m) at (k - 1)
-  pad_step m zero h = absurd (omega arith)
-  pad_step m (suc k) h =
-      let e : suc k - 1 ≡ k = omega arith in
-      rw e
-
-  put_one : (m k n : ℕ) → 0 < k → n ≤ 9 → put_to l at m k n ≡ pad_to (set l (at + (k - 1)) (48 + n)) at m (k - 1)
-  put_one m zero n h d = absurd (omega arith)
-  put_one m (suc k) n h d =
-      let e : suc k - 1 ≡ k = omega arith in
-      let r : n % 10 ≡ n = omega arith in
-      let t : n < 10 = omega arith in
-      simp (e, lt-ltb _ _ t, r)
-
-  pub put_more : (m k n : ℕ) → 0 < k → 9 < n → put_to l at m k n ≡ put_to (set l (at + (k - 1)) (48 + n % 10)) at m (k - 1) (n / 10)
-  put_more m zero n h d = absurd (omega arith)
-  put_more m (suc k) n h d =
-      let e : suc k - 1 ≡ k = omega arith in
-      let t : 10 ≤ n = omega arith in
-      simp (e, le-ltb _ _ t)
-
--- room for the digits that are left, and for the mark
-pub room_more : (k n : ℕ) → 2 ≤ k → 9 < n → n < 10 ^ (k - 1) → (2 ≤ k - 1) × (n / 10 < 10 ^ (k - 1 - 1))
-room_more k n h d r = go (k - 1) (omega arith) r
-  where
-    go : (j : ℕ) → 1 ≤ j → n < 10 ^ j → (2 ≤ j) × (n / 10 < 10 ^ (j - 1))
-    go zero g f = absurd (omega arith)
-    go (suc zero) g f = absurd (omega arith)
-    go (suc (suc j)) g f =
-        let p : 10 ^ suc (suc j) ≡ 10 ^ suc j * 10 = pow-suc 10 (suc j) in
-        let e : suc (suc j) - 1 ≡ suc j = omega arith in
-        (omega arith, rw e (omega arith))
-
--- ---- all the stores, as one text
-
--- a text and the byte after it
-module _ (l : List ℕ) (at k x : ℕ) (h : at + k < length l) where
-  take_kept : take at (set l (at + k) x) ≡ take at l
-  take_kept = take-set-le at l (at + k) x (omega arith)
-
-  drop_kept : drop (at + k) (set l (at + k) x) ≡ x ∷ drop (suc (at + k)) l
-  drop_kept =
-      ap (λ (s : List ℕ). drop (at + k) s) (set_split l (at + k) x h)
-      ∙ drop_at (take (at + k) l) (x ∷ drop (suc (at + k)) l) (at + k) (length-take-le (at + k) l (omega arith))
-
-  over_snoc : (t : List ℕ) → length t ≡ k → over (set l (at + k) x) at t ≡ over l at (t ++ (x ∷ []))
-  over_snoc t e =
-      let p : at + length (t ++ (x ∷ [])) ≡ suc (at + k) = ap (λ (j : ℕ). at + j) (length-append t (x ∷ [])) ∙ omega arith in
-      ap (λ (j : ℕ). take at (set l (at + k) x) ++ t ++ drop (at + j) (set l (at + k) x)) e
-      ∙ ap (λ (s : List ℕ). s ++ t ++ drop (at + k) (set l (at + k) x)) take_kept
-      ∙ ap (λ (s : List ℕ). take at l ++ t ++ s) drop_kept
-      ∙ simp append_assoc (ap (λ (j : ℕ). take at l ++ (t ++ (x ∷ drop j l))) (sym p))
-
-pub fill_over : (l : List ℕ) (at w : ℕ) → at + w ≤ length l → fill_to l at w ≡ over l at (replicate w 32)
-fill_over l at zero h = paste-zero l at []
-fill_over l at (suc w) h =
-    let i : at + w < length l = omega arith in
-    fill_over (set l (at + w) 32) at w (rw length-set (omega arith))
-    ∙ over_snoc l at w 32 i (replicate w 32) (length-replicate w 32)
-    ∙ ap (λ (t : List ℕ). over l at t) (replicate_snoc w)
-
--- the last stores: one digit, the mark, and spaces
-pub put_end : (l : List ℕ) (at m k n : ℕ) → at + k ≤ length l → 2 ≤ k → n ≤ 9
-    → over (set (set l (at + (k - 1)) (48 + n)) (at + (k - 1 - 1)) m) at (replicate (k - 1 - 1) 32) ≡ put_to l at m k n
-put_end l at m k n g h d =
-    let l' : List ℕ = set l (at + (k - 1)) (48 + n) in
-    let f : at + (k - 1 - 1) ≤ length (set l' (at + (k - 1 - 1)) m) = simp length-set (omega arith) in
-    sym (put_one l at m k n (omega arith) d ∙ pad_step l' at m (k - 1) (omega arith) ∙ fill_over (set l' (at + (k - 1 - 1)) m) at (k - 1 - 1) f)
-
-pad_over : (l : List ℕ) (at m w : ℕ) → at + w ≤ length l → pad_to l at m w ≡ over l at (pad m w)
-pad_over l at m zero h = paste-zero l at []
-pad_over l at m (suc w) h =
-    let i : at + w < length l = omega arith in
-    fill_over (set l (at + w) m) at w (rw length-set (omega arith))
-    ∙ over_snoc l at w m i (replicate w 32) (length-replicate w 32)
-
-either : (l : List ℕ) (at x : ℕ) (t : Bool) (a b f g : List ℕ) → a ≡ over l at (f ++ (x ∷ [])) → b ≡ over l at (g ++ (x ∷ [])) → cond t a b ≡ over l at (cond t f g ++ (x ∷ []))
-either l at x true a b f g p q = p
-either l at x false a b f g p q = q
-
-pub put_over : (l : List ℕ) (at m w n : ℕ) → at + w ≤ length l → put_to l at m w n ≡ over l at (text m w n)
-put_over l at m zero n h = paste-zero l at []
-put_over l at m (suc w) n h =
-    let i : at + w < length l = omega arith in
-    let x : ℕ = 48 + n % 10 in
-    let k : at + w ≤ length (set l (at + w) x) = rw length-set (omega arith) in
-    either l at x (ltb n 10) _ _ (pad m w) (text m w (n / 10))
-    (pad_over (set l (at + w) x) at m w k ∙ over_snoc l at w x i (pad m w) (length_pad m w))
-    (put_over (set l (at + w) x) at m w (n / 10) k ∙ over_snoc l at w x i (text m w (n / 10)) (length_text m w (n / 10)))
+text_one : (m w n : ℕ) → n < 10 → text m (suc (suc w)) n ≡ replicate w 32 ++ (m ∷ (48 + n % 10) ∷ [])
+text_one m w n h = simp (lt-ltb _ _ h) (append_snoc (replicate w 32) m ((48 + n % 10) ∷ []))
 
 -- a text that is 21 wide after the mark of a sign is a column
-pub column_over : (l l' : List ℕ) (at m : ℕ) (negative : Bool) (n : ℕ) → m ≡ mark negative → l' ≡ over l at (text m 21 n) → l' ≡ over l at (column negative n)
+pub column_text : (l : List ℕ) (m : ℕ) (negative : Bool) (n : ℕ) → m ≡ mark negative → l ≡ text m 21 n → l ≡ column negative n
 unfolding column
-column_over l l' at m negative n e f = f ∙ ap (λ (x : ℕ). over l at (text x 21 n)) e
+column_text l m negative n e f = f ∙ ap (λ (x : ℕ). text x 21 n) e
+
+-- a number of one digit
+pub column_one : (m : ℕ) (negative : Bool) (n : ℕ) → m ≡ mark negative → n < 10 → replicate 19 32 ++ (m ∷ (48 + n) ∷ []) ≡ column negative n
+column_one m negative n e h =
+    let r : n % 10 ≡ n = omega arith in
+    column_text _ m negative n e (ap (λ (k : ℕ). replicate 19 32 ++ (m ∷ (48 + k) ∷ [])) (sym r) ∙ sym (text_one m 19 n h))
+
+-- what is written of the text of n when a number is left: the first k places are spaces still, there is room in them for that number and the mark, and
+-- its text in them and the bytes after them are the text of n
+pub record WrittenFrom (m w n : ℕ) (t : List ℕ) (k left : ℕ) : Type 0 where
+  pub two : 2 ≤ k
+  pub room : left < 10 ^ (k - 1)
+  pub tail : List ℕ
+  pub spaces : t ≡ replicate k 32 ++ tail
+  pub whole : text m k left ++ tail ≡ text m w n
+
+pub from_start : (m w n : ℕ) (t : List ℕ) → 2 ≤ w → n < 10 ^ (w - 1) → t ≡ replicate w 32 → WrittenFrom m w n t w n
+from_start m w n t h r e = record {
+  two = h;
+  room = r;
+  tail = [];
+  spaces = e ∙ sym (append-nil (replicate w 32));
+  whole = append-nil (text m w n);
+}
+
+module _ (m w n : ℕ) (t : List ℕ) where
+  pub from_more : (k left : ℕ) → WrittenFrom m w n t k left → (left / 10 ≡ 0 → ⊥) → WrittenFrom m w n (set t (k - 1) (48 + left % 10)) (k - 1) (left / 10)
+  from_more zero left f d = absurd (omega (arith, f.two))
+  from_more (suc zero) left f d = absurd (omega (arith, f.two))
+  from_more (suc (suc zero)) left f d =
+      let r : left < 10 ^ 1 = f.room in
+      absurd (omega (arith, r, d))
+  from_more (suc (suc (suc k))) left f d =
+      let e : suc (suc (suc k)) - 1 ≡ suc (suc k) = omega arith in
+      let e' : suc (suc k) - 1 ≡ suc k = omega arith in
+      rw e record {
+        two = omega arith;
+        room = rw e' (omega (arith, rw e at f.room, pow-suc 10 (suc k)));
+        tail = (48 + left % 10) ∷ f.tail;
+        spaces = ap (λ (l : List ℕ). set l (suc (suc k)) (48 + left % 10)) f.spaces ∙ set_last (suc (suc k)) (48 + left % 10) f.tail;
+        whole =
+            sym (append_snoc (text m (suc (suc k)) (left / 10)) (48 + left % 10) f.tail)
+            ∙ ap (λ (l : List ℕ). l ++ f.tail) (sym (text_more m (suc (suc k)) left (omega (arith, d))))
+            ∙ f.whole;
+      }
+
+  pub from_end : (k left : ℕ) → WrittenFrom m w n t k left → left / 10 ≡ 0 → set (set t (k - 1) (48 + left % 10)) (k - 1 - 1) m ≡ text m w n
+  from_end zero left f d = absurd (omega (arith, f.two))
+  from_end (suc zero) left f d = absurd (omega (arith, f.two))
+  from_end (suc (suc k)) left f d =
+      let e : suc (suc k) - 1 ≡ suc k = omega arith in
+      let e' : suc k - 1 ≡ k = omega arith in
+      rw (e, e')
+      (ap (λ (l : List ℕ). set (set l (suc k) (48 + left % 10)) k m) f.spaces
+      ∙ ap (λ (l : List ℕ). set l k m) (set_last (suc k) (48 + left % 10) f.tail)
+      ∙ set_last k m ((48 + left % 10) ∷ f.tail)
+      ∙ sym (append_assoc (replicate k 32) (m ∷ (48 + left % 10) ∷ []) f.tail)
+      ∙ ap (λ (l : List ℕ). l ++ f.tail) (sym (text_one m k left (omega (arith, d))))
+      ∙ f.whole)
 
 -- ---- one text written after another
 
@@ -174,13 +135,6 @@ placed l at k count bytes t m e h =
     ∙ ap (λ (j : ℕ). take at l ++ (t ++ drop j (drop at l))) m
     ∙ ap (λ (r : List ℕ). take at l ++ (t ++ r)) (drop-drop k at l ∙ ap (λ (j : ℕ). drop j l) n)
     ∙ sym (append_assoc (take at l) t (drop (at + length t) l))
-
--- or spaces
-pub spaced : (l : List ℕ) (at k : ℕ) (spaces : List ℕ) → at + k ≤ length l → spaces ≡ replicate (length (take (at + k - at) (drop at l))) 32
-    → take at l ++ (spaces ++ drop (at + k - at) (drop at l)) ≡ over l at (replicate k 32)
-spaced l at k spaces h e =
-    let n : length (take (at + k - at) (drop at l)) ≡ k = length-take-le (at + k - at) (drop at l) (omega (arith, length-drop at l)) ∙ omega arith in
-    placed l at k (at + k - at) spaces (replicate k 32) (omega arith) (e ∙ ap (λ (j : ℕ). replicate j 32) n) (length-replicate k 32)
 
 -- ---- the bytes of a word
 
@@ -269,9 +223,6 @@ module _ (n : ℕ) (h : n < 100000000) where
       → to_le_bytes w64 x ≡ digits 8 n
   digits_bytes x e = bytes_of x ∙ ap (λ (y : ℕ). bytes 8 y) e ∙ packed_eight
 
-text_more : (m w n : ℕ) → 10 ≤ n → text m (suc w) n ≡ text m w (n / 10) ++ ((48 + n % 10) ∷ [])
-text_more m w n h = simp (le-ltb _ _ h)
-
 module _ (a b k : ℕ) where
   -- one digit less
   shift : a * 10 ^ suc k + b ≡ a * 10 ^ k * 10 + b
@@ -310,15 +261,29 @@ text_three m n h k =
     let e : n / 10 / 10 % 10 ≡ n / 100 = omega arith in
     simp (le-ltb _ _ t, le-ltb _ _ u, lt-ltb _ _ v, e)
 
--- digits written after the text of a: that of the number that they make
-module _ (l l' l'' : List ℕ) (at w k a b n : ℕ) (fits : at + w ≤ length l) (small : b < 10 ^ k) (is : n ≡ a * 10 ^ k + b) where
-  pub text_over : (m : ℕ) → 0 < a → l' ≡ over l at (text m w a) → l'' ≡ over l' (at + w) (digits k b) → l'' ≡ over l at (text m (w + k) n)
-  text_over m p e f =
-      f
-      ∙ ap (λ (x : List ℕ). over x (at + w) (digits k b)) e
-      ∙ over_both l at w (text m w a) (digits k b) (length_text m w a) fits
-      ∙ ap (λ (t : List ℕ). over l at t) (sym (text_join m w k a b p small))
-      ∙ ap (λ (j : ℕ). over l at (text m (w + k) j)) (sym is)
+-- a column from its first digits and two groups of eight
+module _ (m a x y n : ℕ) (p : 0 < a) (q : x < 100000000) (r : y < 100000000) (is : n ≡ (a * 100000000 + x) * 100000000 + y) where
+  pub text_groups : text m 21 n ≡ text m 5 a ++ digits 8 x ++ digits 8 y
+  text_groups =
+      ap (λ (k : ℕ). text m 21 k) is
+      ∙ text_join m 13 8 (a * 100000000 + x) y (omega arith) r
+      ∙ ap (λ (t : List ℕ). t ++ digits 8 y) (text_join m 5 8 a x p q)
+
+-- bytes put after those of a
+put_next : (a x r : List ℕ) (n k : ℕ) → length a ≡ n → take n (a ++ r) ++ (x ++ drop k (drop n (a ++ r))) ≡ a ++ x ++ drop k r
+put_next a x r n k e =
+    ap₂ (λ (s t : List ℕ). s ++ (x ++ drop k t)) (take_at a r n e) (drop_at a r n e)
+    ∙ sym (append_assoc a x (drop k r))
+
+-- and others after them
+pub put_both : (a x y r : List ℕ) → length a ≡ 5 → length x ≡ 8 → length r ≡ 16
+    → take 13 (take 5 (a ++ r) ++ (x ++ drop 8 (drop 5 (a ++ r)))) ++ (y ++ drop 8 (drop 13 (take 5 (a ++ r) ++ (x ++ drop 8 (drop 5 (a ++ r)))))) ≡ a ++ x ++ y
+put_both a x y r e f g =
+    let none : drop 8 (drop 8 r) ≡ [] = drop-drop 8 8 r ∙ ap (λ (k : ℕ). drop k r) (sym g) ∙ drop-length r in
+    ap (λ (t : List ℕ). take 13 t ++ (y ++ drop 8 (drop 13 t))) (put_next a x r 5 8 e)
+    ∙ put_next (a ++ x) y (drop 8 r) 13 8 (length-append a x ∙ omega (arith, e, f))
+    ∙ ap (λ (t : List ℕ). a ++ x ++ y ++ t) none
+    ∙ append-nil (a ++ x ++ y)
 
 -- two texts, the second where the first ends, are one
 pub wrote_both : (l l' l'' : List ℕ) (at at' at'' : ℕ) (a b : List ℕ) (n m : ℕ) → at + n ≤ length l

@@ -9,33 +9,33 @@ fn mark(negative: bool) -> u8
     if negative { b'-' } else { b' ' }
 }
 
-// Writes a number of one digit, or its negation, into the 21 places from `at` on.
-fn write_digit(out: &mut [u8], at: usize, negative: bool, n: u64)
-    requires { (n < 10) × (at + 21 ≤ length out.old) }
-    ensures { out.new ≡ over out.old at (column negative n) }
+// Writes the column of a number of one digit, or of its negation.
+fn write_digit(out: &mut [u8; 21], negative: bool, n: u64)
+    requires { n < 10 }
+    ensures { out.new ≡ column negative n }
 {
-    out[at + 20] = b'0' + n as u8;
-    out[at + 19] = mark(negative);
-    out[at..at + 19].fill(b' ');
+    *out = [b' '; 21];
+    out[19] = mark(negative);
+    out[20] = b'0' + n as u8;
 }
 
-// Writes a number into the w places from `at` on, after a mark, its digits from the last on.
-fn write_text(out: &mut [u8], at: usize, before: u8, w: usize, n: u64)
-    requires { (2 ≤ w) × (n < 10 ^ (w - 1)) × (at + w ≤ length out.old) }
-    ensures { out.new ≡ over out.old at (text before w n) }
+// Writes a number at the end of W places, after a mark, its digits from the last on. It is kept a call of its own, so that the numbers that rows mostly
+// hold are written with no call.
+#[inline(never)]
+fn write_text<const W: usize>(out: &mut [u8; W], before: u8, n: u64)
+    requires { (2 ≤ W) × (n < 10 ^ (W - 1)) }
+    ensures { out.new ≡ text before W n }
 {
-    let mut k = w;
+    out.fill(b' ');
     let mut rest = n;
-    while rest > 9 {
-        k -= 1;
-        out[at + k] = b'0' + (rest % 10) as u8;
+    for k in (1..W).rev() {
+        out[k] = b'0' + (rest % 10) as u8;
         rest /= 10;
+        if rest == 0 {
+            out[k - 1] = before;
+            break;
+        }
     }
-    k -= 1;
-    out[at + k] = b'0' + rest as u8;
-    k -= 1;
-    out[at + k] = before;
-    out[at..at + k].fill(b' ');
 }
 
 // The eight digits of a number. They are worked in a word of 64 bits, the first the lowest: it is cut into lanes of four digits, of two and of one, all at
@@ -53,45 +53,48 @@ fn eight_digits(n: u64) -> [u8; 8]
     ones.to_le_bytes()
 }
 
-// Writes a number of 1 to 4 digits into the 5 places from `at` on, after a mark. The digits of a float before its last 16 are mostly three.
-fn write_first(out: &mut [u8], at: usize, before: u8, n: u64)
-    requires { (n < 10000) × (at + 5 ≤ length out.old) }
-    ensures { out.new ≡ over out.old at (text before 5 n) }
+// A number of 1 to 4 digits at the end of 5 places, after a mark. The digits of a float before its last 16 are mostly three.
+fn first_text(before: u8, n: u64) -> [u8; 5]
+    requires { n < 10000 }
+    ensures { result ≡ text before 5 n }
 {
     if let 100..1000 = n {
-        let text = [
+        return [
             b' ',
             before,
             b'0' + (n / 100) as u8,
             b'0' + (n / 10 % 10) as u8,
             b'0' + (n % 10) as u8,
         ];
-        out[at..at + 5].copy_from_slice(&text);
-    } else {
-        write_text(out, at, before, 5, n);
     }
+    let mut text = [b' '; 5];
+    write_text(&mut text, before, n);
+    text
 }
 
-// Writes a number of 17 digits or more, or its negation, into the 21 places from `at` on: its first digits, and the last 16 by eights.
-fn write_long(out: &mut [u8], at: usize, negative: bool, n: u64)
-    requires { (10000000000000000 ≤ n) × (at + 21 ≤ length out.old) }
-    ensures { out.new ≡ over out.old at (column negative n) }
+// Writes the column of a number of 17 digits or more, or of its negation: its first digits, and the last 16 by eights.
+fn write_long(out: &mut [u8; 21], negative: bool, n: u64)
+    requires { 10000000000000000 ≤ n }
+    ensures { out.new ≡ column negative n }
 {
     let low = n % 10_000_000_000_000_000;
-    write_first(out, at, mark(negative), n / 10_000_000_000_000_000);
-    out[at + 5..at + 13].copy_from_slice(&eight_digits(low / 100_000_000));
-    out[at + 13..at + 21].copy_from_slice(&eight_digits(low % 100_000_000));
+    out[..5].copy_from_slice(&first_text(mark(negative), n / 10_000_000_000_000_000));
+    out[5..13].copy_from_slice(&eight_digits(low / 100_000_000));
+    out[13..].copy_from_slice(&eight_digits(low % 100_000_000));
 }
 
-// Writes a number, or its negation, into the 21 places from `at` on. Rows hold mostly numbers of one digit, and of 19 or 20.
-fn write_number(out: &mut [u8], at: usize, negative: bool, n: u64)
-    requires { at + 21 ≤ length out.old }
-    ensures { out.new ≡ over out.old at (column negative n) }
+// Writes a number, or its negation, into the 21 places of a column. Rows hold mostly numbers of one digit, and of 19 or 20.
+fn write_number(places: &mut [u8], negative: bool, n: u64)
+    requires { length places.old ≡ 21 }
+    ensures { places.new ≡ column negative n }
 {
+    let Some(out) = places.as_mut_array() else {
+        unreachable!()
+    };
     match n {
-        0..10 => write_digit(out, at, negative, n),
-        10..10_000_000_000_000_000 => write_text(out, at, mark(negative), 21, n),
-        _ => write_long(out, at, negative, n),
+        0..10 => write_digit(out, negative, n),
+        10..10_000_000_000_000_000 => write_text(out, mark(negative), n),
+        _ => write_long(out, negative, n),
     }
 }
 
@@ -100,6 +103,6 @@ pub fn write_column(out: &mut [u8], at: usize, negative: bool, n: u64) -> usize
     requires { at + 21 ≤ length out.old }
     ensures { Wrote out.old at (column negative n) 21 out.new result }
 {
-    write_number(out, at, negative, n);
+    write_number(&mut out[at..at + 21], negative, n);
     at + 21
 }

@@ -1,21 +1,20 @@
 -- `write_long`: the text of the first digits, and after it those of one group, and of another.
-use Rattle.std.proofs.Common.{ℕ, ◌+◌, ◌-◌, ◌*◌, ◌/◌, ◌%◌, ◌<◌, ◌≡◌, refl, arith, ◌∙◌}
-use Rattle.columns.proofs.Writing.{column_over, text_over, length_digits, placed}
+use Rattle.std.proofs.Common.{rules, ℕ, ◌/◌, ◌%◌, ◌≡◌, arith, sym, ap, ◌∙◌, length}
+use Rattle.columns.proofs.Scanning.{length_text}
+use lib.ListN.{length-drop}
+use Rattle.columns.proofs.Writing.{column_text, text_groups, length_digits, put_both}
 use Rattle.columns.proofs.column.write_long.Goals as goal
 
 pub returns : goal.returns
 returns c =
-    let a = c.args in
-    let mark = c.mark in
-    let high : ℕ = a.n / 10000000000000000 in
-    let low : ℕ = a.n % 10000000000000000 in
-    let first : ℕ = high * 100000000 + low / 100000000 in
-    let p : 0 < high = omega arith in
-    let q : 0 < first = omega arith in
-    let e : a.n ≡ first * 100000000 + low % 100000000 = omega arith in
-    let t =
-    text_over a.out.now _ _ a.at 5 8 high (low / 100000000) first (omega arith) (omega arith) refl mark.result p c.write_first.ensures
-    (placed _ (a.at + 5) 8 (a.at + 13 - (a.at + 5)) _ _ (omega arith) (c.copy_from_slice.ensures.after ∙ c.eight_digits.ensures) (length_digits 8 (low / 100000000))) in
-    column_over a.out.now _ a.at mark.result a.negative a.n mark.ensures
-    (text_over a.out.now _ _ a.at 13 8 first (low % 100000000) a.n (omega arith) (omega arith) e mark.result q t
-    (placed _ (a.at + 13) 8 (a.at + 21 - (a.at + 13)) _ _ (omega arith) (c.copy_from_slice-2.ensures.after ∙ c.eight_digits-2.ensures) (length_digits 8 (low % 100000000))))
+    let n = c.args.n in
+    let m = c.mark.result in
+    let high : ℕ = n / 10000000000000000 in
+    let low : ℕ = n % 10000000000000000 in
+    let a = c.copy_from_slice.ensures.after ∙ c.first_text.ensures in
+    let x = c.copy_from_slice-2.ensures.after ∙ c.eight_digits.ensures in
+    let y = c.copy_from_slice-3.ensures.after ∙ c.eight_digits-2.ensures in
+    let whole : length c.args.out.now ≡ 21 = search rules in
+    column_text _ m c.args.negative n c.mark.ensures
+    (put_both _ _ _ _ (ap length a ∙ length_text m 5 high) (ap length x ∙ length_digits 8 (low / 100000000)) (length-drop 5 c.args.out.now ∙ omega (arith, whole))
+    ∙ rw (a, x, y) (sym (text_groups m high (low / 100000000) (low % 100000000) n (omega arith) (omega arith) (omega arith) (omega arith))))
