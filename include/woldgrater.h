@@ -51,8 +51,8 @@ extern "C" {
 #define WOLDGRATER_STACK_ECON 512
 #define WOLDGRATER_STACK_RELIEF 7168
 #define WOLDGRATER_STACK_LINE 512
-#define WOLDGRATER_STACK_PLAY 35328
-#define WOLDGRATER_STACK_FEED 31232
+#define WOLDGRATER_STACK_PLAY 20480
+#define WOLDGRATER_STACK_FEED 14336
 #define WOLDGRATER_STACK_START_FINISH 3072
 
 /* ---- What goes in and out. A flag of a row is a yes where it is not 0; one that is given is 0 or 1. What the words of a state say is
