@@ -163,11 +163,9 @@ minus_word form n w e low high m =
     sym (ap (λ (c : List ℕ). read_word form c) is ∙ read_word_back form w there)
 
 -- the column that is written of a word of a signed number below 0, and of any other
-pub column_minus_word : (form : Form) (w : ℕ) → is_signed form ≡ true → half ≤ w → w < limit → column true (last_word - w + 1) ≡ word_column form w
+pub column_minus_word : (form : Form) (w : ℕ) → is_signed form ≡ true → half ≤ w → w < limit → column true (limit - w) ≡ word_column form w
 unfolding word_column
-column_minus_word form w e h l =
-    let d : last_word - w + 1 ≡ limit - w = omega arith in
-    simp (e, le-leb half w h, d)
+column_minus_word form w e h l = simp (e, le-leb half w h)
 
 pub column_plain_word : (form : Form) (w : ℕ) → (is_signed form ≡ true → w < half) → column false w ≡ word_column form w
 unfolding word_column

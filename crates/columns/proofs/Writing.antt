@@ -128,13 +128,18 @@ pub over_both : (l : List ℕ) (at n : ℕ) (a b : List ℕ) → length a ≡ n 
 over_both l at n a b e h = ap (λ (k : ℕ). over (over l at a) (at + k) b) (sym e) ∙ over_over l at a (omega arith) b
 
 -- k bytes put into the places from `at` on
-pub placed : (l : List ℕ) (at k count : ℕ) (bytes t : List ℕ) → count ≡ k → bytes ≡ t → length t ≡ k → take at l ++ (bytes ++ drop count (drop at l)) ≡ over l at t
-placed l at k count bytes t m e h =
+pub placed : (l a r bytes t : List ℕ) (at k : ℕ) → a ≡ take at l → r ≡ drop at l → bytes ≡ t → length t ≡ k → Wrote l at t k (a ++ (bytes ++ drop k r)) (at + k)
+placed l a r bytes t at k first rest e h =
     let n : at + k ≡ at + length t = omega arith in
-    ap (λ (b : List ℕ). take at l ++ (b ++ drop count (drop at l))) e
-    ∙ ap (λ (j : ℕ). take at l ++ (t ++ drop j (drop at l))) m
-    ∙ ap (λ (r : List ℕ). take at l ++ (t ++ r)) (drop-drop k at l ∙ ap (λ (j : ℕ). drop j l) n)
-    ∙ sym (append_assoc (take at l) t (drop (at + length t) l))
+    record {
+      bytes =
+          ap (λ (b : List ℕ). a ++ (b ++ drop k r)) e
+          ∙ ap₂ (λ (x y : List ℕ). x ++ (t ++ drop k y)) first rest
+          ∙ ap (λ (y : List ℕ). take at l ++ (t ++ y)) (drop-drop k at l ∙ ap (λ (j : ℕ). drop j l) n)
+          ∙ sym (append_assoc (take at l) t (drop (at + length t) l));
+      long = h;
+      place = refl;
+    }
 
 -- ---- the bytes of a word
 

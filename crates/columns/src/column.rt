@@ -84,13 +84,9 @@ fn write_long(out: &mut [u8; 21], negative: bool, n: u64)
 }
 
 // Writes a number, or its negation, into the 21 places of a column. Rows hold mostly numbers of one digit, and of 19 or 20.
-fn write_number(places: &mut [u8], negative: bool, n: u64)
-    requires { length places.old ≡ 21 }
-    ensures { places.new ≡ column negative n }
+fn write_number(out: &mut [u8; 21], negative: bool, n: u64)
+    ensures { out.new ≡ column negative n }
 {
-    let Some(out) = places.as_mut_array() else {
-        unreachable!()
-    };
     match n {
         0..10 => write_digit(out, negative, n),
         10..10_000_000_000_000_000 => write_text(out, mark(negative), n),
@@ -103,6 +99,10 @@ pub fn write_column(out: &mut [u8], at: usize, negative: bool, n: u64) -> usize
     requires { at + 21 ≤ length out.old }
     ensures { Wrote out.old at (column negative n) 21 out.new result }
 {
-    write_number(&mut out[at..at + 21], negative, n);
+    let (_, rest) = out.split_at_mut(at);
+    let Some(places) = rest.first_chunk_mut() else {
+        unreachable!()
+    };
+    write_number(places, negative, n);
     at + 21
 }

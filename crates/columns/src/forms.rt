@@ -25,8 +25,8 @@ impl Form {
     {
         match self {
             Form::YesNo => 1,
-            Form::Signed => 9223372036854775807,
-            Form::Float | Form::Unsigned => 18446744073709551615,
+            Form::Signed => i64::MAX as u64,
+            Form::Float | Form::Unsigned => u64::MAX,
         }
     }
 
@@ -37,6 +37,7 @@ impl Form {
     }
 
     // The word of a number with no minus before it. Rows hold mostly floats, and each number is one.
+    #[tactic(auto, using(crate::proofs::Words::no_plain_word, crate::proofs::Words::plain_word), unfolding(crate::specs::Forms::largest))]
     fn plain_word(self, n: u64) -> Option<u64>
         ensures { result ≡ read_word self (column false n) }
     {
@@ -52,16 +53,18 @@ impl Form {
     }
 
     // The word of a number with a minus before it: a signed number, below 0.
+    #[tactic(auto, using(crate::proofs::Words::no_minus_word, crate::proofs::Words::minus_word))]
     fn minus_word(self, n: u64) -> Option<u64>
         ensures { result ≡ read_word self (column true n) }
     {
-        if !self.is_signed() || n == 0 || n > 9223372036854775808 {
+        if !self.is_signed() || n == 0 || n > i64::MIN.unsigned_abs() {
             return None;
         }
-        Some(18446744073709551615 - (n - 1))
+        Some(n.wrapping_neg())
     }
 
     // The word of a column; none where it is badly formed.
+    #[tactic(auto, using(crate::proofs::Words::scanned_word, crate::proofs::Words::no_scanned_word))]
     fn read_word(self, column: &[u8]) -> Option<u64>
         ensures { result ≡ read_word self column.now }
     {
@@ -73,6 +76,7 @@ impl Form {
     }
 
     // Writes a word as a column. The words of answers are mostly below 10, and no minus stands before those.
+    #[tactic(auto, using(crate::proofs::Writing::wrote_as, crate::proofs::Words::column_minus_word, crate::proofs::Words::column_plain_word))]
     fn write_word(self, out: &mut [u8], at: usize, word: u64) -> usize
         requires { at + 21 ≤ length out.old }
         ensures { Wrote out.old at (word_column self word) 21 out.new result }
@@ -80,23 +84,20 @@ impl Form {
         if word < 10 {
             return write_column(out, at, false, word);
         }
-        if self.is_signed() {
-            if word >= 9223372036854775808 {
-                return write_column(out, at, true, 18446744073709551615 - word + 1);
-            }
+        if self.is_signed() && word.cast_signed().is_negative() {
+            return write_column(out, at, true, word.wrapping_neg());
         }
         write_column(out, at, false, word)
     }
 }
 
 // The column k of a line, counted from 0.
+#[tactic(auto, unfolding(crate::specs::Line::column_of))]
 fn column_of(line: &[u8], k: usize) -> &[u8]
     requires { 21 * k + 21 ≤ length line.now }
     ensures { result.now ≡ column_of line.now k }
 {
-    let at = 21 * k;
-    let end = at + 21;
-    &line[at..end]
+    &line[21 * k..][..21]
 }
 
 // Helper. The words of the columns of a line; none where it is badly formed.

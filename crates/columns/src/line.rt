@@ -7,11 +7,12 @@ use crate::column::write_column;
 use crate::forms::{Form, write_columns};
 
 // Ends a line: writes a newline at a place, and gives the place after it.
+#[tactic(auto, using(crate::proofs::Writing::byte_over))]
 fn end_line(out: &mut [u8], at: usize) -> usize
     requires { at < length out.old }
     ensures { Wrote out.old at end_of_line 1 out.new result }
 {
-    out[at] = 10;
+    out[at] = b'\n';
     at + 1
 }
 

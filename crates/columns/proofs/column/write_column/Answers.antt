@@ -1,15 +1,7 @@
--- `write_column`: the number's column, and the place after it.
-use Rattle.std.proofs.Common.{◌+◌, ◌-◌, arith, refl}
+-- `write_column`: the number's column, in its 21 places.
 use Rattle.columns.proofs.Inverse.{length_column}
 use Rattle.columns.proofs.Writing.{placed}
 use Rattle.columns.proofs.column.write_column.Goals as goal
 
 pub returns : goal.returns
-returns c =
-    let a = c.args in
-    let long = length_column a.negative a.n in
-    record {
-      bytes = placed a.out.now a.at 21 (a.at + 21 - a.at) _ _ (omega arith) c.write_number.ensures long;
-      long = long;
-      place = refl;
-    }
+returns c = placed _ _ _ _ _ _ 21 c.split_at_mut-rest.ensures.front c.split_at_mut-rest.ensures.back c.write_number.ensures (length_column c.args.negative c.args.n)
