@@ -115,18 +115,18 @@ pub fn read_columns<const N: usize>(line: &[u8], forms: &[Form; N]) -> Option<[u
     Some(words)
 }
 
-// Helper. Writes words as columns, and gives the place after them.
-pub fn write_columns<const N: usize>(
+// Helper. Writes words as columns, as far as they go, and gives the place after them.
+pub fn write_columns<const N: usize, const M: usize>(
     out: &mut [u8],
     at: usize,
     forms: &[Form; N],
-    words: &[u64; N],
+    words: &[u64; M],
 ) -> usize
-    requires { at + 21 * N ≤ length out.old }
-    ensures { Wrote out.old at (line_of forms.now words.now) (21 * N) out.new result }
+    requires { (M ≤ N) × (at + 21 * M ≤ length out.old) }
+    ensures { Wrote out.old at (line_of forms.now words.now) (21 * M) out.new result }
 {
     let mut to = at;
-    for i in 0..N {
+    for i in 0..M {
         to = forms[i].write_word(out, to, words[i]);
     }
     to
