@@ -12,7 +12,8 @@ use borrow.Author.Tests.{leb-true, leb-false, eqb-true, eqb-false, lt-ltb, le-le
 use Rattle.std.specs.Prelude.{Option, Some, None, option_map, option_and_then, nat_eq}
 use Rattle.std.specs.Cmp.Lexicographic.{pointwise}
 use Rattle.std.specs.Bool.{then_some}
-use Rattle.columns.specs.Scan.{limit, number, value_with, value_after, after_spaces, minus_first, after_minus, is_digit, scan}
+use Rattle.columns.specs.Scan.{limit, number, scan}
+use Rattle.columns.specs.ScanSteps.{value_with, value_after, after_spaces, minus_first, after_minus, is_digit}
 use Rattle.columns.proofs.Scanning.{Seen, Blank, Minus, Number, Bad, digit_of, digit_then, step_of, scan_to, digit_of_lem, below_digits, above_digits, a_digit}
 use Rattle.columns.proofs.Inverse.{both, finish, scan_is}
 

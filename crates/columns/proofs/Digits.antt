@@ -10,7 +10,8 @@ use lib.ListN.{length, get_or}
 use borrow.Author.Tests.{leb-true, eqb-true, eqb-false}
 use lib.Dec.{leb, eqb}
 use Rattle.std.specs.Prelude.{Some, None}
-use Rattle.columns.specs.Scan.{is_space, is_digit, every, number_at, limit, number, scan}
+use Rattle.columns.specs.Scan.{limit, number, scan}
+use Rattle.columns.specs.ScanSteps.{is_space, is_digit, every, number_at}
 use Rattle.columns.proofs.Scanning.{Blank, Number, scan_to}
 use Rattle.columns.proofs.Inverse.{both}
 use Rattle.columns.proofs.Lanes.{word_of, Joined, joined}

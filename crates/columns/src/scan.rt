@@ -1,6 +1,7 @@
 // A column, read: the number that stands in it.
 ghost use Rattle.std.specs.Prelude.{◌≡◌, true, ◌+◌, ◌*◌, ◌≤◌, ◌<◌, length};
-ghost use Rattle.columns.specs.Scan.{every, is_space, is_digit, number_at, digit_value, value_with, value_after, after_spaces, minus_first, after_minus, scan};
+ghost use Rattle.columns.specs.Scan.{scan};
+ghost use Rattle.columns.specs.ScanSteps.{every, is_space, is_digit, number_at, digit_value, value_with, value_after, after_spaces, minus_first, after_minus};
 
 // The number that stands in a column: whether a minus is before it, and its digits' value.
 #[derive(Clone, Copy)]
@@ -10,7 +11,7 @@ pub struct Number {
 }
 
 // The value of a digit.
-#[tactic(auto, unfolding(crate::specs::Scan::digit_value))]
+#[tactic(auto, unfolding(crate::specs::ScanSteps::digit_value))]
 fn digit(byte: u8) -> Option<u64>
     ensures { result ≡ digit_value byte }
 {
@@ -21,7 +22,7 @@ fn digit(byte: u8) -> Option<u64>
 }
 
 // The number of the digits of `value` and one after them.
-#[tactic(auto, unfolding(crate::specs::Scan::digit_value, crate::specs::Scan::value_with))]
+#[tactic(auto, unfolding(crate::specs::ScanSteps::digit_value, crate::specs::ScanSteps::value_with))]
 fn value_with(value: u64, byte: u8) -> Option<u64>
     ensures { result ≡ value_with value byte }
 {

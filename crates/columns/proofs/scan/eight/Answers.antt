@@ -1,7 +1,7 @@
 -- `eight`: its digits joined in lanes of a word.
 use Rattle.std.proofs.Common.{ℕ, List, ◌≡◌, ◌+◌, ◌-◌, ◌<◌, get_or, drop, arith, ap, ◌∙◌}
 use Rattle.std.proofs.lemmas.List.{get_or-take, get_or-drop}
-use Rattle.columns.specs.Scan.{number_at}
+use Rattle.columns.specs.ScanSteps.{number_at}
 use Rattle.columns.proofs.Lanes.{Joined}
 use Rattle.columns.proofs.Digits.{eight_read}
 use Rattle.columns.proofs.scan.eight.Goals.{After-from_le_bytes-ones}

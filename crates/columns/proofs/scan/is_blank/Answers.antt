@@ -1,7 +1,7 @@
 -- `is_blank`: byte after byte, one that is no space makes it false for good.
 use Rattle.std.proofs.Common.{◌≡◌, ◌+◌, arith, sym}
 use Rattle.std.proofs.lemmas.List.{get_or-take}
-use Rattle.columns.specs.Scan.{is_space}
+use Rattle.columns.specs.ScanSteps.{is_space}
 use Rattle.columns.proofs.Digits.{every_none, every_next}
 use Rattle.columns.proofs.scan.is_blank.Goals as goal
 

@@ -1,7 +1,7 @@
 -- `is_long`: byte after byte, one that is no digit makes it false for good.
 use Rattle.std.proofs.Common.{◌≡◌, ◌&&◌, Bool, drop, arith, sym, ap, ◌∙◌}
 use Rattle.std.proofs.lemmas.List.{get_or-take, get_or-drop}
-use Rattle.columns.specs.Scan.{is_digit}
+use Rattle.columns.specs.ScanSteps.{is_digit}
 use Rattle.columns.proofs.Digits.{every_none, every_next}
 use Rattle.columns.proofs.scan.is_long.Goals as goal
 

@@ -1,6 +1,6 @@
 -- `is_long`: `long` says whether the bytes seen are digits.
 use Rattle.std.proofs.Common.{◌≡◌}
-use Rattle.columns.specs.Scan.{every, is_digit}
+use Rattle.columns.specs.ScanSteps.{every, is_digit}
 use Rattle.columns.proofs.scan.is_long.Given as goal
 
 abbrev pub invariant-loop-byte : goal.invariant-loop-byte

@@ -1,6 +1,6 @@
 -- `value_of`: the digits that are left, after those of `value`, make the number of all.
 use Rattle.std.proofs.Common.{◌≡◌, drop}
-use Rattle.columns.specs.Scan.{value_after}
+use Rattle.columns.specs.ScanSteps.{value_after}
 use Rattle.columns.proofs.scan.value_of.Given as goal
 
 abbrev pub invariant-loop-byte : goal.invariant-loop-byte
