@@ -81,7 +81,7 @@ answer_is = refl
 
 -- the line of the commands
 line_is : words_line econ_answer_forms (econ_answer_words (Ok commands)) ≡ output_bytes
-unfolding words_line econ_answer_words econ_command_words commands output_bytes answer_text bytes_of line_of word_column column to_bits of_bits
+unfolding words_line econ_command_words commands output_bytes answer_text bytes_of line_of word_column column to_bits of_bits
 line_is = refl
 
 said_is : (econ_answered economizer_fresh row_text).said ≡ output_bytes

@@ -1,15 +1,14 @@
 -- Economizer lines (document 01, 'Row lines'): time first, then the record's fields in order; the answer is the status and the outputs in the order of
 -- `ControllerTrace`, or the status alone.
-use Rattle.std.specs.Prelude.{ℕ, Ok, Err, List, [], ◌∷◌, eqb, get_or}
+use Rattle.std.specs.Prelude.{ℕ, List, [], ◌∷◌, eqb, get_or}
 use Rattle.std.specs.Float.{binary64}
 use Rattle.std.specs.Float.Ieee.{of_bits, to_bits}
 use Rattle.columns.specs.declared.forms.Form.{Form}
 use Rattle.columns.specs.declared.forms.Form.TheVariants.{Float, YesNo, Signed, Unsigned}
 use Rattle.columns.specs.Word.{yes_no_word, word_signed, signed_word}
 use Rattle.line_stream.specs.Lines.{Answer}
-use Rattle.line_stream.specs.RowKind.{RowKind, RowLine, row_line, line_answered}
+use Rattle.line_stream.specs.RowKind.{RowKind, RowLine, answer_words, row_line, line_answered}
 use Rattle.row_writer.specs.Writing.{row_text}
-use Rattle.refusals.specs.Refusals.{refusal_number}
 use Rattle.economizer_controller.specs.declared.types.EconomizerRow.{EconomizerRow}
 use Rattle.economizer_controller.specs.declared.types.EconomizerState.{EconomizerState}
 use Rattle.economizer_controller.specs.declared.types.EconomizerCommands.{EconomizerCommands}
@@ -79,14 +78,9 @@ econ_command_words commands =
     ∷ to_bits binary64 commands.return_damper_command
     ∷ []
 
--- the words of an answer: the number of a refusal alone
-unfoldable pub econ_answer_words : EconomizerAnswer → List ℕ
-econ_answer_words (Ok commands) = econ_command_words commands
-econ_answer_words (Err refusal) = refusal_number refusal ∷ []
-
 -- ---- the kind
 
-abbrev pub econ_kind : RowKind EconomizerState EconomizerRow EconomizerAnswer
+abbrev pub econ_kind : RowKind EconomizerState EconomizerRow EconomizerCommands
 econ_kind = record {
   row_forms = econ_row_forms;
   row_of = econ_row_of;
@@ -95,8 +89,12 @@ econ_kind = record {
   next = λ state row. (economizer_row state row).state;
   answer = λ state row. (economizer_row state row).answer;
   answer_forms = econ_answer_forms;
-  answer_words = econ_answer_words;
+  command_words = econ_command_words;
 }
+
+-- the words of an answer: the number of a refusal alone
+abbrev pub econ_answer_words : EconomizerAnswer → List ℕ
+econ_answer_words = answer_words econ_kind
 
 -- the row of a line, and the line of a row with its newline
 abbrev pub econ_line : List ℕ → RowLine EconomizerRow

@@ -1,9 +1,8 @@
 // Economizer lines: the columns of a row and of an answer, a row made of its words and written by them, commands made into words.
 ghost use Rattle.std.specs.Prelude.{refl, false};
-ghost use Rattle.std.proofs.Common.{rules};
 ghost use Rattle.economizer_controller.specs.declared.types.EconomizerState.{EconomizerState};
 ghost use Rattle.econ_lines.specs.Econ.{econ_row_forms, econ_answer_forms, econ_kind};
-ghost use Rattle.econ_lines.specs.Sized.{econ_sized, econ_refused};
+ghost use Rattle.econ_lines.specs.Sized.{econ_sized};
 
 use columns::forms::Form;
 use columns::word::{of_pattern, pattern, signed_word, word_signed, yes_no_word};
@@ -86,7 +85,7 @@ impl RowLines<8, 5> for EconLines {
         numbers_finite(row)
     }
 
-    #[tactic(auto, unfolding(crate::specs::Econ::econ_command_words, crate::specs::Econ::econ_answer_words))]
+    #[tactic(auto, unfolding(crate::specs::Econ::econ_command_words))]
     fn command_words(commands: EconomizerCommands) -> [u64; 5] {
         [
             0, // status
@@ -108,10 +107,6 @@ impl RowLines<8, 5> for EconLines {
         step.answer
     }
 
-    ghost columns = { Prim.search rules };
-
-    ghost answer_columns = { Prim.search rules };
-
     ghost row_count = { refl };
 
     ghost answer_count = { refl };
@@ -119,8 +114,6 @@ impl RowLines<8, 5> for EconLines {
     ghost row_forms = { refl };
 
     ghost answer_forms = { refl };
-
-    ghost refused = { econ_refused };
 
     ghost sized = { econ_sized };
 }

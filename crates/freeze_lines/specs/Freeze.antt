@@ -1,15 +1,14 @@
 -- Freeze protection's lines (document 01, 'Row lines'): time first, then the record's fields in order; the answer is the status and the outputs in the order of
 -- the Rust trace, or the status alone.
-use Rattle.std.specs.Prelude.{ℕ, Ok, Err, List, [], ◌∷◌, eqb, get_or}
+use Rattle.std.specs.Prelude.{ℕ, List, [], ◌∷◌, eqb, get_or}
 use Rattle.std.specs.Float.{binary64}
 use Rattle.std.specs.Float.Ieee.{of_bits, to_bits}
 use Rattle.columns.specs.declared.forms.Form.{Form}
 use Rattle.columns.specs.declared.forms.Form.TheVariants.{Float, YesNo, Unsigned}
 use Rattle.columns.specs.Word.{yes_no_word}
 use Rattle.line_stream.specs.Lines.{Answer}
-use Rattle.line_stream.specs.RowKind.{RowKind, RowLine, row_line, line_answered}
+use Rattle.line_stream.specs.RowKind.{RowKind, RowLine, answer_words, row_line, line_answered}
 use Rattle.row_writer.specs.Writing.{row_text}
-use Rattle.refusals.specs.Refusals.{refusal_number}
 use Rattle.freeze_protection.specs.declared.types.FreezeRow.{FreezeRow}
 use Rattle.freeze_protection.specs.declared.types.FreezeState.{FreezeState}
 use Rattle.freeze_protection.specs.declared.types.FreezeCommands.{FreezeCommands}
@@ -105,14 +104,9 @@ freeze_command_words commands =
     ∷ commands.alarm_level
     ∷ []
 
--- the words of an answer: the number of a refusal alone
-unfoldable pub freeze_answer_words : FreezeAnswer → List ℕ
-freeze_answer_words (Ok commands) = freeze_command_words commands
-freeze_answer_words (Err refusal) = refusal_number refusal ∷ []
-
 -- ---- the kind
 
-abbrev pub freeze_kind : RowKind FreezeState FreezeRow FreezeAnswer
+abbrev pub freeze_kind : RowKind FreezeState FreezeRow FreezeCommands
 freeze_kind = record {
   row_forms = freeze_row_forms;
   row_of = freeze_row_of;
@@ -121,8 +115,12 @@ freeze_kind = record {
   next = λ state row. (freeze_row state row).state;
   answer = λ state row. (freeze_row state row).answer;
   answer_forms = freeze_answer_forms;
-  answer_words = freeze_answer_words;
+  command_words = freeze_command_words;
 }
+
+-- the words of an answer: the number of a refusal alone
+abbrev pub freeze_answer_words : FreezeAnswer → List ℕ
+freeze_answer_words = answer_words freeze_kind
 
 -- the row of a line, and the line of a row with its newline
 abbrev pub freeze_line : List ℕ → RowLine FreezeRow

@@ -1,9 +1,8 @@
 // Freeze lines: the columns of a row and of an answer, a row made of its words and written by them, commands made into words.
 ghost use Rattle.std.specs.Prelude.{refl, false};
-ghost use Rattle.std.proofs.Common.{rules};
 ghost use Rattle.freeze_protection.specs.declared.types.FreezeState.{FreezeState};
 ghost use Rattle.freeze_lines.specs.Freeze.{freeze_row_forms, freeze_answer_forms, freeze_kind};
-ghost use Rattle.freeze_lines.specs.Sized.{freeze_sized, freeze_refused};
+ghost use Rattle.freeze_lines.specs.Sized.{freeze_sized};
 
 use columns::forms::Form;
 use columns::word::{of_pattern, pattern, yes_no_word};
@@ -105,7 +104,7 @@ impl RowLines<12, 12> for FreezeLines {
         numbers_finite(row)
     }
 
-    #[tactic(auto, unfolding(crate::specs::Freeze::freeze_command_words, crate::specs::Freeze::freeze_answer_words))]
+    #[tactic(auto, unfolding(crate::specs::Freeze::freeze_command_words))]
     fn command_words(commands: FreezeCommands) -> [u64; 12] {
         [
             0, // status
@@ -134,10 +133,6 @@ impl RowLines<12, 12> for FreezeLines {
         step.answer
     }
 
-    ghost columns = { Prim.search rules };
-
-    ghost answer_columns = { Prim.search rules };
-
     ghost row_count = { refl };
 
     ghost answer_count = { refl };
@@ -145,8 +140,6 @@ impl RowLines<12, 12> for FreezeLines {
     ghost row_forms = { refl };
 
     ghost answer_forms = { refl };
-
-    ghost refused = { freeze_refused };
 
     ghost sized = { freeze_sized };
 }

@@ -7,18 +7,19 @@ use mathlib.Core.Bool.{Bool, true, false, cond}
 use native.Mathlib.Omega.{arith}
 use lib.ListN.{length, take, length-take}
 use lib.Seq.{take_all}
-use Rattle.std.specs.Prelude.{Option, Some, None}
+use Rattle.std.specs.Prelude.{Option, Some, None, Result, Ok, Err}
 use Rattle.columns.specs.Column.{Wrote}
 use Rattle.columns.specs.Forms.{well_formed, words_of, read_line}
 use Rattle.columns.specs.Line.{status_line, words_line}
 use Rattle.columns.proofs.Writing.{wrote_text}
 use Rattle.columns.proofs.Tables.{other_length, well_length}
 use Rattle.columns.proofs.Lines.{length_status, length_words_line}
+use Rattle.refusals.specs.declared.Refusal.{Refusal}
 use Rattle.line_stream.specs.Lines.{Answered}
-use Rattle.line_stream.specs.RowKind.{RowKind, RowLine, Row, Malformed, row_line, read_answered, line_answered, Stepped, Sized}
+use Rattle.line_stream.specs.RowKind.{RowKind, RowLine, Row, Malformed, answer_words, row_line, read_answered, line_answered, Stepped, Sized}
 use Rattle.line_stream.proofs.Cutting.{at_most_or_above}
 
-module _ {S R A : Type 0} (kind : RowKind S R A) where
+module _ {S R C : Type 0} (kind : RowKind S R C) where
   module _ (sized : Sized kind) where
     other_malformed : (line : List ℕ) → (length line ≡ 21 * length kind.row_forms → ⊥) → row_line kind line ≡ Malformed
     unfolding row_line
@@ -35,6 +36,11 @@ module _ {S R A : Type 0} (kind : RowKind S R A) where
         ap (λ (x : RowLine R). read_answered kind q x)
         (other_malformed (take n p) (λ x. omega (arith, sized.columns)) ∙ sym (other_malformed p (λ x. omega (arith, sized.columns)))))
 
+    -- an answer has a form for each of its words
+    words_fit : (a : Result C Refusal) → length (answer_words kind a) ≤ length kind.answer_forms
+    words_fit (Ok commands) = sized.words commands
+    words_fit (Err refusal) = omega (arith, ap length sized.status)
+
     -- and an answer takes 22 bytes at most for each byte of the line and for the newline
     pub kind_room : (q : S) (line : List ℕ) → length (line_answered kind q line).said ≤ 22 * (length line + 1)
     unfolding line_answered row_line read_answered
@@ -44,8 +50,8 @@ module _ {S R A : Type 0} (kind : RowKind S R A) where
             → length (read_answered kind q (cond t (Row (kind.row_of (words_of kind.row_forms line))) Malformed)).said ≤ 22 * (length line + 1)
         by false e = omega (arith, length_status 5)
         by true e =
-            let a : A = kind.answer q (kind.row_of (words_of kind.row_forms line)) in
-            omega (arith, length_words_line kind.answer_forms (kind.answer_words a) (sized.words a), sized.words a, sized.room, well_length kind.row_forms line e)
+            let a = kind.answer q (kind.row_of (words_of kind.row_forms line)) in
+            omega (arith, length_words_line kind.answer_forms (answer_words kind a) (words_fit a), words_fit a, sized.room, well_length kind.row_forms line e)
 
   -- ---- a line answered by the words that were read of it
 
@@ -72,10 +78,10 @@ module _ {S R A : Type 0} (kind : RowKind S R A) where
         (record { state = refl; text = wrote_text _ _ _ refl w })
 
     -- a row, by the text that is written of its answer
-    pub row_answered : (words : List ℕ) → Some words ≡ read_line kind.row_forms line → (next : S) (answer : A) → Stepped kind state (kind.row_of words) next answer
-        → (text : List ℕ) (n : ℕ) → text ≡ words_line kind.answer_forms (kind.answer_words answer) → Wrote out at text n after place
+    pub row_answered : (words : List ℕ) → Some words ≡ read_line kind.row_forms line → (next : S) (answer : Result C Refusal) → Stepped kind state (kind.row_of words) next answer
+        → (text : List ℕ) (n : ℕ) → text ≡ words_line kind.answer_forms (answer_words kind answer) → Wrote out at text n after place
         → Answered (line_answered kind state line) out at next after place
     unfolding line_answered read_answered
     row_answered words e next answer s text n t w =
         subst (λ (x : RowLine R). Answered (read_answered kind state x) out at next after place) (ap row_in e ∙ sym (row_is line))
-        (record { state = s.moved; text = wrote_text _ _ _ (t ∙ ap (λ (x : A). words_line kind.answer_forms (kind.answer_words x)) s.said) w })
+        (record { state = s.moved; text = wrote_text _ _ _ (t ∙ ap (λ (x : Result C Refusal). words_line kind.answer_forms (answer_words kind x)) s.said) w })

@@ -1,15 +1,14 @@
 -- Relief lines (document 01, 'Row lines'): time first, then the record's fields in order, arrays by index; the answer is the status, the mean, four speeds and
 -- four dampers, or the status alone.
-use Rattle.std.specs.Prelude.{ℕ, Ok, Err, List, [], ◌∷◌, false, eqb, pos, get_or}
+use Rattle.std.specs.Prelude.{ℕ, List, [], ◌∷◌, false, eqb, pos, get_or}
 use Rattle.std.specs.Float.{binary64}
 use Rattle.std.specs.Float.Ieee.{of_bits, to_bits}
 use Rattle.columns.specs.declared.forms.Form.{Form}
 use Rattle.columns.specs.declared.forms.Form.TheVariants.{Float, YesNo, Signed, Unsigned}
 use Rattle.columns.specs.Word.{yes_no_word, word_signed, signed_word}
 use Rattle.line_stream.specs.Lines.{Answer}
-use Rattle.line_stream.specs.RowKind.{RowKind, RowLine, row_line, line_answered}
+use Rattle.line_stream.specs.RowKind.{RowKind, RowLine, answer_words, row_line, line_answered}
 use Rattle.row_writer.specs.Writing.{row_text}
-use Rattle.refusals.specs.Refusals.{refusal_number}
 use Rattle.relief_fan_group.specs.declared.types.ReliefRow.{ReliefRow}
 use Rattle.relief_fan_group.specs.declared.types.ReliefState.{ReliefState}
 use Rattle.relief_fan_group.specs.declared.types.ReliefCommands.{ReliefCommands}
@@ -94,14 +93,9 @@ relief_command_words commands =
     ∷ to_bits binary64 commands.damper_4
     ∷ []
 
--- the words of an answer: the number of a refusal alone
-unfoldable pub relief_answer_words : ReliefAnswer → List ℕ
-relief_answer_words (Ok commands) = relief_command_words commands
-relief_answer_words (Err refusal) = refusal_number refusal ∷ []
-
 -- ---- the kind
 
-abbrev pub relief_kind : RowKind ReliefState ReliefRow ReliefAnswer
+abbrev pub relief_kind : RowKind ReliefState ReliefRow ReliefCommands
 relief_kind = record {
   row_forms = relief_row_forms;
   row_of = relief_row_of;
@@ -110,8 +104,12 @@ relief_kind = record {
   next = λ state row. (relief_row state row).state;
   answer = λ state row. (relief_row state row).answer;
   answer_forms = relief_answer_forms;
-  answer_words = relief_answer_words;
+  command_words = relief_command_words;
 }
+
+-- the words of an answer: the number of a refusal alone
+abbrev pub relief_answer_words : ReliefAnswer → List ℕ
+relief_answer_words = answer_words relief_kind
 
 -- the row of a line, and the line of a row with its newline
 abbrev pub relief_line : List ℕ → RowLine ReliefRow

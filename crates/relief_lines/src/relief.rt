@@ -1,10 +1,9 @@
 // Relief lines: the columns of a row and of an answer, a row made of its words and written by them, commands made into words.
 ghost use Rattle.std.specs.Prelude.{refl, true};
-ghost use Rattle.std.proofs.Common.{rules};
 ghost use Rattle.relief_fan_group.specs.declared.types.ReliefState.{ReliefState};
 ghost use Rattle.relief_fan_group.specs.Lent.{lent_state};
 ghost use Rattle.relief_lines.specs.Relief.{relief_row_forms, relief_answer_forms, relief_kind};
-ghost use Rattle.relief_lines.specs.Sized.{relief_sized, relief_refused};
+ghost use Rattle.relief_lines.specs.Sized.{relief_sized};
 
 use columns::forms::Form;
 use columns::word::{of_pattern, pattern, signed_word, word_signed, yes_no_word};
@@ -111,7 +110,7 @@ impl RowLines<12, 10> for ReliefLines {
         numbers_finite(row)
     }
 
-    #[tactic(auto, unfolding(crate::specs::Relief::relief_command_words, crate::specs::Relief::relief_answer_words))]
+    #[tactic(auto, unfolding(crate::specs::Relief::relief_command_words))]
     fn command_words(commands: ReliefCommands) -> [u64; 10] {
         [
             0, // status
@@ -139,10 +138,6 @@ impl RowLines<12, 10> for ReliefLines {
         step.answer
     }
 
-    ghost columns = { Prim.search rules };
-
-    ghost answer_columns = { Prim.search rules };
-
     ghost row_count = { refl };
 
     ghost answer_count = { refl };
@@ -150,8 +145,6 @@ impl RowLines<12, 10> for ReliefLines {
     ghost row_forms = { refl };
 
     ghost answer_forms = { refl };
-
-    ghost refused = { relief_refused };
 
     ghost sized = { relief_sized };
 }

@@ -6,6 +6,8 @@ use mathlib.Core.Bool.{Bool, true, false, cond}
 use lib.Dec.{ltb}
 use lib.Ieee.{Float}
 use lib.ListN.{length, take, drop}
+use Rattle.std.specs.Prelude.{Result}
+use Rattle.refusals.specs.declared.Refusal.{Refusal}
 use Rattle.columns.proofs.Writing.{wrote_text}
 use Rattle.line_stream.specs.Lines.{Answer, Fed, answers, feed, lines_after, rest_after, onward, fed_from}
 use Rattle.line_stream.specs.RowKind.{RowKind, Stepped}
@@ -62,7 +64,7 @@ module _ {S Q : Type 0} (f : S → Q) (line : S → List ℕ → Answer S) (line
       by false = refl
 
 -- a row by another name for it
-pub stepped_as : {S R A : Type 0} {kind : RowKind S R A} {s s' : S} {r r' : R} {a : A} → Stepped kind s r s' a → r ≡ r' → Stepped kind s r' s' a
+pub stepped_as : {S R C : Type 0} {kind : RowKind S R C} {s s' : S} {r r' : R} {a : Result C Refusal} → Stepped kind s r s' a → r ≡ r' → Stepped kind s r' s' a
 stepped_as {kind = k} {s} h e = record { moved = h.moved ∙ ap (λ x. k.next s x) e; said = h.said ∙ ap (λ x. k.answer s x) e }
 
 -- ---- the window, after one row and another

@@ -30,7 +30,7 @@ feed_plain answer q p (b ∷ l) rest h =
     ∙ feed_plain answer q (p ++ (b ∷ [])) l rest s.1
     ∙ ap (λ (x : List ℕ). feed answer q x rest) (append_assoc p (b ∷ []) l)
 
-module _ {S R A : Type 0} (kind : RowKind S R A) where
+module _ {S R C : Type 0} (kind : RowKind S R C) where
   pub rows_fed : (state : S) (rows : List R) → AllReadBack kind rows
       → feed (line_answered kind) state [] (rows_text kind rows)
       ≡ record { next = (rows_answered kind state rows).next; part = []; said = (rows_answered kind state rows).said }

@@ -11,7 +11,7 @@ use Rattle.columns.proofs.Values.{all_again, floats_finite, words_again}
 use Rattle.line_stream.specs.RowKind.{RowKind, Row, Malformed, row_line}
 use Rattle.row_writer.specs.Writing.{row_text, ReadsBack}
 
-module _ {S R A : Type 0} (kind : RowKind S R A) where
+module _ {S R C : Type 0} (kind : RowKind S R C) where
   -- a row that its words give back: each row that 64 bits hold
   pub record GivenBack (row : R) : Type 0 where
     pub words : are_words kind.row_forms (kind.row_words row) ≡ true

@@ -25,7 +25,7 @@ write_text finite text buffer at =
     cond (not finite) (untouched NotFinite buffer)
     (cond (ltb (length buffer) end) (untouched NoRoom buffer) (record { answer = Ok end; buffer = over buffer at text }))
 
-module _ {S R A : Type 0} (kind : RowKind S R A) where
+module _ {S R C : Type 0} (kind : RowKind S R C) where
   -- the line of a row, with its newline
   abbrev pub row_text : R → List ℕ
   row_text row = words_line kind.row_forms (kind.row_words row)

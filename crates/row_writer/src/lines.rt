@@ -1,7 +1,5 @@
 // What a kind of rows is to its reader and its writer: the columns of a row and of an answer, the row of its words and the words of it, and a row answered.
-ghost use Rattle.std.specs.Prelude.{◌≡◌, ◌≤◌, ◌∷◌, [], List, Float, Bool, length, Result, Ok, Err};
-ghost use Rattle.refusals.specs.declared.Refusal.{Refusal};
-ghost use Rattle.refusals.specs.Refusals.{refusal_number};
+ghost use Rattle.std.specs.Prelude.{◌≡◌, List, Float, Bool, length};
 ghost use Rattle.columns.specs.declared.forms.Form.{Form};
 ghost use Rattle.line_stream.specs.RowKind.{RowKind, Stepped, Sized};
 ghost use Rattle.row_writer.specs.Lines.{WindowLeft};
@@ -34,7 +32,7 @@ pub trait RowLines<const N: usize, const M: usize> {
 
     ghost has_window: { Bool };
 
-    ghost kind: { RowKind Held Self.Row (Result Self.Commands Refusal) };
+    ghost kind: { RowKind Held Self.Row Self.Commands };
 
     // The row of its words.
     fn row_of(words: &[u64; N]) -> Self::Row
@@ -51,7 +49,7 @@ pub trait RowLines<const N: usize, const M: usize> {
 
     // The words of an accepted row's answer: status 0 and the commands.
     fn command_words(commands: Self::Commands) -> [u64; M]
-        ensures { result ≡ kind.answer_words (Ok commands) };
+        ensures { result ≡ kind.command_words commands };
 
     // A row: its commands and the next state, or its refusal and the old state.
     fn step(
@@ -64,10 +62,6 @@ pub trait RowLines<const N: usize, const M: usize> {
             (held state.new times.new integrals.new) result }
         ensures window { WindowLeft has_window times.old integrals.old times.new integrals.new };
 
-    ghost columns: { N ≤ 12 };
-
-    ghost answer_columns: { M ≤ 12 };
-
     ghost row_count: { length ROW ≡ N };
 
     ghost answer_count: { length ANSWER ≡ M };
@@ -75,9 +69,6 @@ pub trait RowLines<const N: usize, const M: usize> {
     ghost row_forms: { kind.row_forms ≡ ROW };
 
     ghost answer_forms: { kind.answer_forms ≡ ANSWER };
-
-    // The words of a refusal are its number alone.
-    ghost refused: { (r : Refusal) → kind.answer_words (Err r) ≡ refusal_number r ∷ [] };
 
     ghost sized: { Sized kind };
 }

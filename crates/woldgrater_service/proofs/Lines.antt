@@ -9,7 +9,7 @@ use Rattle.row_writer.specs.Writing.{LeftBy, ReadsBack, write_row}
 use Rattle.woldgrater_service.specs.declared.line.LineGiven.{LineGiven}
 use Rattle.woldgrater_service.specs.Line.{line_given, LineLeft}
 
-module _ {S R A : Type 0} (kind : RowKind S R A) (row row' : R) (same : row ≡ row') where
+module _ {S R C : Type 0} (kind : RowKind S R C) (row row' : R) (same : row ≡ row') where
   pub line_left : (out after : List ℕ) (written : Result ℕ Refusal) (given : LineGiven) → LeftBy (write_row kind row out 0) written after
       → given ≡ line_given written → LineLeft (write_row kind row' out 0) given after
   line_left out after written given left e = record {

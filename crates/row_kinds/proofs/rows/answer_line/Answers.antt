@@ -6,6 +6,7 @@ use Rattle.columns.specs.Forms.{read_line}
 use Rattle.columns.specs.Line.{words_line}
 use Rattle.columns.proofs.Lines.{status_words_line}
 use Rattle.columns.proofs.Tables.{read_length}
+use Rattle.line_stream.specs.RowKind.{answer_words}
 use Rattle.line_stream.proofs.RowKinds.{bad_answered, row_answered}
 use Rattle.row_kinds.proofs.RowLines.{stepped_as}
 use Rattle.row_kinds.proofs.rows.answer_line.Goals as goal
@@ -25,9 +26,8 @@ write_line-requires g c =
     let long = read_length k.row_forms c.args.line.now c.in-Some.words is in
     let m : length k.answer_forms ≡ g.row.M = ap length l.answer_forms ∙ l.answer_count in
     let room : c.args.at + 21 * g.row.M < length c.args.out.now = omega (arith, long, m, l.sized.room, c.requires) in
-    let few = l.answer_columns in
-    let a : g.row.M * 1 < 9223372036854775808 = omega (arith, few) in
-    let b : g.row.M * 8 < 9223372036854775808 = omega (arith, few) in
+    let a : g.row.M * 1 < 9223372036854775808 = omega (arith, m, l.sized.answer_columns) in
+    let b : g.row.M * 8 < 9223372036854775808 = omega (arith, m, l.sized.answer_columns) in
     (a, (b, room))
 
 pub returns-in-Ok-clause-answered : goal.returns-in-Ok-clause-answered
@@ -37,7 +37,7 @@ returns-in-Ok-clause-answered g c =
     row_answered k _ c.args.line.now _ _ _ _ c.in-Some.words
     (sym c.in-Some.is ∙ c.read_columns.ensures ∙ ap (λ (f : List Form). read_line f c.args.line.now) (c.ROW.ensures ∙ sym l.row_forms))
     _ c.step.result (stepped_as c.step.ensures.stepped c.row_of.ensures) _ _
-    (ap₂ (λ (f : List Form) (w : List ℕ). words_line f w) (c.ANSWER.ensures ∙ sym l.answer_forms) (c.command_words.ensures ∙ ap (λ a. k.answer_words a) (sym c.in-Ok.is)))
+    (ap₂ (λ (f : List Form) (w : List ℕ). words_line f w) (c.ANSWER.ensures ∙ sym l.answer_forms) (c.command_words.ensures ∙ ap (answer_words k) (sym c.in-Ok.is)))
     c.write_line.ensures
 
 pub returns-in-Err-clause-answered : goal.returns-in-Err-clause-answered
@@ -49,5 +49,5 @@ returns-in-Err-clause-answered g c =
     _ c.step.result (stepped_as c.step.ensures.stepped c.row_of.ensures) _ _
     (sym (status_words_line l.sized.commands c.number.result)
     ∙ ap₂ (λ (f : List Form) (w : List ℕ). words_line f w) (sym l.sized.status)
-    (ap (λ (n : ℕ). n ∷ []) c.number.ensures ∙ sym (l.refused c.in-Err.refusal) ∙ ap (λ a. k.answer_words a) (sym c.in-Err.is)))
+    (ap (λ (n : ℕ). n ∷ []) c.number.ensures ∙ ap (answer_words k) (sym c.in-Err.is)))
     c.write_status_line-in-Err.ensures
