@@ -1,10 +1,10 @@
--- Refusals by their numbers: 1, 2 and 3 are those of all sequences, 4 and 11 the relief fan group's, and 10 is that of a row that is written. The first one that
--- fits is given, in the order 1, 2, 3, 11, 4.
+-- Refusals by their numbers: 1, 2 and 3 are those of all sequences, 4 and 11 the relief fan group's. 5 is that of a line that is badly formed, 6 of a first line
+-- that names no kind of rows, 10 of a row that is written. The first one that fits a row is given, in the order 1, 2, 3, 11, 4.
 use Rattle.std.specs.Prelude.{ℕ, Bool, not, cond, Float, Option, Result, Ok, Err}
 use Rattle.reals.specs.Sign.{is_sign_negative}
 use Rattle.reals.specs.Seen.{seen_above}
 use Rattle.refusals.specs.declared.Refusal.{Refusal}
-use Rattle.refusals.specs.declared.Refusal.TheVariants.{NotFinite, NegativeTime, FallingTime, AlarmOutOfRange, WindowFull, NoRoom}
+use Rattle.refusals.specs.declared.Refusal.TheVariants.{NotFinite, NegativeTime, FallingTime, AlarmOutOfRange, WindowFull, BadlyFormed, NoKind, NoRoom}
 
 -- a row is accepted, or refused
 abbrev pub Verdict : Type 0
@@ -17,6 +17,8 @@ refusal_number NegativeTime = 2
 refusal_number FallingTime = 3
 refusal_number AlarmOutOfRange = 11
 refusal_number WindowFull = 4
+refusal_number BadlyFormed = 5
+refusal_number NoKind = 6
 refusal_number NoRoom = 10
 
 -- 1 if a number is not finite; 2 if the time's sign bit is set, so −0.0 too; 3 if the time is below the last accepted time. Equal times are taken.

@@ -1,4 +1,4 @@
-// What a row is refused for, one enum for all, the refusals that all sequences share, and what a row gives.
+// What a row, or its line, is refused for, one enum for all; the refusals that all sequences share, and what a row gives.
 #![tactic(auto)]
 
 ghost use Rattle.std.specs.Prelude.{◌≡◌};
@@ -16,6 +16,8 @@ pub enum Refusal {
     FallingTime,
     AlarmOutOfRange,
     WindowFull,
+    BadlyFormed,
+    NoKind,
     NoRoom,
 }
 
@@ -34,6 +36,8 @@ impl Refusal {
             Refusal::FallingTime => 3,
             Refusal::AlarmOutOfRange => 11,
             Refusal::WindowFull => 4,
+            Refusal::BadlyFormed => 5,
+            Refusal::NoKind => 6,
             Refusal::NoRoom => 10,
         }
     }

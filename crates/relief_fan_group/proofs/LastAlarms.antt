@@ -13,7 +13,7 @@ use Rattle.relief_fans.specs.Flags.{all_of}
 use Rattle.relief_fans.specs.Alarms.{fits_byte, alarms_fit}
 use Rattle.relief_fans.proofs.AlarmBytes.{bytes_kept}
 use Rattle.relief_fan_group.specs.declared.types.ReliefRow.{ReliefRow}
-use Rattle.std.specs.Prelude.{Option, None, Some}
+use Rattle.std.specs.Prelude.{None, Some}
 use Rattle.relief_fan_group.specs.Step.{relief_blocks, relief_fresh, relief_next}
 use Rattle.relief_fan_group.specs.Reading.{Past, verdict_of}
 use Rattle.relief_fan_group.specs.Blocks.{blocks_of}

@@ -4,6 +4,7 @@ use logical::pre::PreState;
 use logical::present_timer::PresentTimerState;
 use logical::timer::TimerOutput;
 use logical::true_delay_on_init::TrueDelayOnInitState;
+use moving_average::lent::Integrator;
 use moving_average::state::MovingAverageState;
 use reals::threshold::ThresholdState;
 use refusals::Refusal;
@@ -50,6 +51,13 @@ pub struct ReliefBlocks {
 #[derive(Clone, Copy)]
 pub struct ReliefState {
     pub window: MovingAverageState,
+    pub blocks: ReliefBlocks,
+}
+
+// The state but its window's arrays, which are lent beside it.
+#[derive(Clone, Copy)]
+pub struct ReliefHeld {
+    pub integrator: Integrator,
     pub blocks: ReliefBlocks,
 }
 

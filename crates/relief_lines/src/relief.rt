@@ -7,19 +7,11 @@ ghost use Rattle.relief_lines.specs.Sized.{relief_sized};
 
 use columns::forms::Form;
 use columns::word::{of_pattern, pattern, signed_word, word_signed, yes_no_word};
-use moving_average::lent::Integrator;
 use refusals::Refusal;
 use relief_fan_group::lent::relief_row_lent;
-use relief_fan_group::types::{ReliefBlocks, ReliefCommands, ReliefRow};
+use relief_fan_group::types::{ReliefCommands, ReliefHeld, ReliefRow};
 use relief_fan_group::verdict::numbers_finite;
 use row_writer::lines::RowLines;
-
-// The state but the window's arrays, which are lent.
-#[derive(Clone, Copy)]
-pub struct ReliefHeld {
-    pub integrator: Integrator,
-    pub blocks: ReliefBlocks,
-}
 
 // The lines of relief rows.
 pub struct ReliefLines;
@@ -65,7 +57,7 @@ impl RowLines<12, 10> for ReliefLines {
 
     ghost Held = { ReliefState };
 
-    ghost held = { λ state times integrals. lent_state state.integrator state.blocks times integrals };
+    ghost held = { lent_state };
 
     ghost has_window = { true };
 
@@ -132,9 +124,8 @@ impl RowLines<12, 10> for ReliefLines {
         integrals: &mut [f64; 512],
         row: ReliefRow,
     ) -> Result<ReliefCommands, Refusal> {
-        let step = relief_row_lent(state.integrator, state.blocks, times, integrals, row);
-        state.integrator = step.integrator;
-        state.blocks = step.blocks;
+        let step = relief_row_lent(*state, times, integrals, row);
+        *state = step.state;
         step.answer
     }
 

@@ -14,8 +14,7 @@ use Rattle.line_stream.specs.RowKind.{RowKind, Stepped}
 use Rattle.row_writer.specs.Lines.{WindowLeft}
 use Rattle.freeze_protection.specs.declared.types.FreezeState.{FreezeState}
 use Rattle.economizer_controller.specs.declared.types.EconomizerState.{EconomizerState}
-use Rattle.moving_average.specs.declared.lent.Integrator.{Integrator}
-use Rattle.relief_fan_group.specs.declared.types.ReliefBlocks.{ReliefBlocks}
+use Rattle.relief_fan_group.specs.declared.types.ReliefHeld.{ReliefHeld}
 use Rattle.relief_fan_group.specs.Lent.{lent_state}
 use Rattle.freeze_lines.specs.Freeze.{freeze_answered}
 use Rattle.relief_lines.specs.Relief.{relief_answered}
@@ -113,28 +112,28 @@ module _ (r : RowReader) (times integrals : List Float) (text : List ℕ) (first
   module _ (times' integrals' : List Float) (v : WindowLeft false times integrals times' integrals') where
     pub freeze_passed : r.phase ≡ phase.Rows kind.Freeze → (s : FreezeState) → LinesAnswered freeze_answered r.freeze text first out from s rest after at
         → LinesPassed before text first out from
-        (carried (record { phase = r.phase; freeze = s; integrator = r.integrator; blocks = r.blocks; econ = r.econ }) times' integrals') rest after at
+        (carried (record { phase = r.phase; freeze = s; relief = r.relief; econ = r.econ }) times' integrals') rest after at
     unfolding reader_line
     freeze_passed p s a =
         passed kind.Freeze p Freeze freeze_answered (λ s l. refl) r.freeze s refl a _
-        (λ i. carried (record { phase = p i; freeze = s; integrator = r.integrator; blocks = r.blocks; econ = r.econ }) ((v.kept refl).0 i) ((v.kept refl).1 i))
+        (λ i. carried (record { phase = p i; freeze = s; relief = r.relief; econ = r.econ }) ((v.kept refl).0 i) ((v.kept refl).1 i))
         refl p (record { times_long = v.times_long; integrals_long = v.integrals_long })
 
     pub econ_passed : r.phase ≡ phase.Rows kind.Econ → (s : EconomizerState) → LinesAnswered econ_answered r.econ text first out from s rest after at
         → LinesPassed before text first out from
-        (carried (record { phase = r.phase; freeze = r.freeze; integrator = r.integrator; blocks = r.blocks; econ = s }) times' integrals') rest after at
+        (carried (record { phase = r.phase; freeze = r.freeze; relief = r.relief; econ = s }) times' integrals') rest after at
     unfolding reader_line
     econ_passed p s a =
         passed kind.Econ p Econ econ_answered (λ s l. refl) r.econ s refl a _
-        (λ i. carried (record { phase = p i; freeze = r.freeze; integrator = r.integrator; blocks = r.blocks; econ = s }) ((v.kept refl).0 i) ((v.kept refl).1 i))
+        (λ i. carried (record { phase = p i; freeze = r.freeze; relief = r.relief; econ = s }) ((v.kept refl).0 i) ((v.kept refl).1 i))
         refl p (record { times_long = v.times_long; integrals_long = v.integrals_long })
 
-  pub relief_passed : r.phase ≡ phase.Rows kind.Relief → (n : Integrator) (b : ReliefBlocks) (times' integrals' : List Float) → WindowLeft true times integrals times' integrals'
-      → LinesAnswered relief_answered (lent_state r.integrator r.blocks times integrals) text first out from (lent_state n b times' integrals') rest after at
+  pub relief_passed : r.phase ≡ phase.Rows kind.Relief → (h : ReliefHeld) (times' integrals' : List Float) → WindowLeft true times integrals times' integrals'
+      → LinesAnswered relief_answered (lent_state r.relief times integrals) text first out from (lent_state h times' integrals') rest after at
       → LinesPassed before text first out from
-      (carried (record { phase = r.phase; freeze = r.freeze; integrator = n; blocks = b; econ = r.econ }) times' integrals') rest after at
+      (carried (record { phase = r.phase; freeze = r.freeze; relief = h; econ = r.econ }) times' integrals') rest after at
   unfolding reader_line
-  relief_passed p n b times' integrals' v a =
-      passed kind.Relief p Relief relief_answered (λ s l. refl) (lent_state r.integrator r.blocks times integrals) (lent_state n b times' integrals') refl a _
-      (ap (λ (x : Phase). carried (record { phase = x; freeze = r.freeze; integrator = n; blocks = b; econ = r.econ }) times' integrals') p) refl p
+  relief_passed p h times' integrals' v a =
+      passed kind.Relief p Relief relief_answered (λ s l. refl) (lent_state r.relief times integrals) (lent_state h times' integrals') refl a _
+      (ap (λ (x : Phase). carried (record { phase = x; freeze = r.freeze; relief = h; econ = r.econ }) times' integrals') p) refl p
       (record { times_long = v.times_long; integrals_long = v.integrals_long })

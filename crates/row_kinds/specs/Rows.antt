@@ -1,18 +1,16 @@
 -- The reader of the three kinds: `Reader` with the state of each kind as one arm of a sum; and the reader that the code carries from chunk to chunk, with the
 -- arrays of the relief window beside it.
-use Rattle.std.specs.Prelude.{ℕ, ◌+◌, ◌*◌, ◌≤◌, ◌≡◌, List, Bool, true, false, Float, length, drop, None}
-use Rattle.reals.specs.Constants.{plus_zero}
+use Rattle.std.specs.Prelude.{ℕ, ◌+◌, ◌*◌, ◌≤◌, ◌≡◌, List, Bool, true, false, Float, length, drop}
 use Rattle.columns.specs.Column.{Wrote}
 use Rattle.columns.specs.Line.{status_line}
 use Rattle.line_stream.specs.Lines.{Answer, Fed, feed, cut, Answered, fed_from, LinesAs, FedAs}
-use Rattle.moving_average.specs.declared.lent.Integrator.{Integrator}
 use Rattle.freeze_protection.specs.declared.types.FreezeState.{FreezeState}
 use Rattle.freeze_protection.specs.Step.{freeze_fresh}
 use Rattle.economizer_controller.specs.declared.types.EconomizerState.{EconomizerState}
 use Rattle.economizer_controller.specs.Step.{economizer_fresh}
 use Rattle.relief_fan_group.specs.declared.types.ReliefState.{ReliefState}
-use Rattle.relief_fan_group.specs.Step.{relief_blocks, relief_fresh}
-use Rattle.relief_fan_group.specs.Lent.{lent_state}
+use Rattle.relief_fan_group.specs.Step.{relief_fresh}
+use Rattle.relief_fan_group.specs.Lent.{held_of, lent_state}
 use Rattle.freeze_lines.specs.Freeze.{freeze_answered}
 use Rattle.relief_lines.specs.Relief.{relief_answered}
 use Rattle.econ_lines.specs.Econ.{econ_answered}
@@ -97,7 +95,7 @@ carried reader times integrals = record { reader = reader; times = times; integr
 -- the state of a kind in it
 abbrev pub sequence_in : Kind → Carried → Sequence
 sequence_in kind.Freeze c = Freeze c.reader.freeze
-sequence_in kind.Relief c = Relief (lent_state c.reader.integrator c.reader.blocks c.times c.integrals)
+sequence_in kind.Relief c = Relief (lent_state c.reader.relief c.times c.integrals)
 sequence_in kind.Econ c = Econ c.reader.econ
 
 abbrev pub at_phase : Phase → Carried → Rows
@@ -112,28 +110,25 @@ rows_in c = at_phase c.reader.phase c
 -- the same at another phase
 abbrev pub with_phase : Phase → Carried → Carried
 with_phase p c = record {
-  reader = record { phase = p; freeze = c.reader.freeze; integrator = c.reader.integrator; blocks = c.reader.blocks; econ = c.reader.econ };
+  reader = record { phase = p; freeze = c.reader.freeze; relief = c.reader.relief; econ = c.reader.econ };
   times = c.times;
   integrals = c.integrals;
 }
-
-abbrev pub integrator_of : ReliefState → Integrator
-integrator_of s = record { t_start = s.window.t_start; prev_t = s.window.prev_t; mu = s.window.mu; count = s.window.count }
 
 -- the same in another state of a sequence: those of the other kinds stay
 abbrev pub with_sequence : Sequence → Carried → Carried
 with_sequence (Freeze s) c = record {
-  reader = record { phase = phase.Rows kind.Freeze; freeze = s; integrator = c.reader.integrator; blocks = c.reader.blocks; econ = c.reader.econ };
+  reader = record { phase = phase.Rows kind.Freeze; freeze = s; relief = c.reader.relief; econ = c.reader.econ };
   times = c.times;
   integrals = c.integrals;
 }
 with_sequence (Relief s) c = record {
-  reader = record { phase = phase.Rows kind.Relief; freeze = c.reader.freeze; integrator = integrator_of s; blocks = s.blocks; econ = c.reader.econ };
+  reader = record { phase = phase.Rows kind.Relief; freeze = c.reader.freeze; relief = held_of s; econ = c.reader.econ };
   times = s.window.times;
   integrals = s.window.integrals;
 }
 with_sequence (Econ s) c = record {
-  reader = record { phase = phase.Rows kind.Econ; freeze = c.reader.freeze; integrator = c.reader.integrator; blocks = c.reader.blocks; econ = s };
+  reader = record { phase = phase.Rows kind.Econ; freeze = c.reader.freeze; relief = c.reader.relief; econ = s };
   times = c.times;
   integrals = c.integrals;
 }
@@ -143,17 +138,12 @@ with_rows First c = with_phase phase.First c
 with_rows (At q) c = with_sequence q c
 with_rows Stopped c = with_phase phase.Stopped c
 
--- the integrator of an empty window
-unfoldable pub no_points : Integrator
-no_points = record { t_start = plus_zero; prev_t = None; mu = plus_zero; count = 0 }
-
 -- a reader at a phase, with the fresh state of each kind
 unfoldable pub fresh_at : Phase → RowReader
 fresh_at phase = record {
   phase = phase;
   freeze = freeze_fresh;
-  integrator = no_points;
-  blocks = relief_blocks;
+  relief = held_of relief_fresh;
   econ = economizer_fresh;
 }
 

@@ -13,7 +13,7 @@ use columns::line::{write_line, write_status_line};
 use econ_lines::econ::EconLines;
 use freeze_lines::freeze::FreezeLines;
 use line_stream::line_end;
-use relief_lines::relief::{ReliefHeld, ReliefLines};
+use relief_lines::relief::ReliefLines;
 use row_writer::lines::RowLines;
 
 // The place of the bytes after some lines, and the place after their answers.
@@ -96,16 +96,8 @@ pub fn pass_rows(
             answer_lines::<FreezeLines, _, _>(text, out, times, integrals, freeze, first, at)
         }
         Kind::Relief => {
-            let mut held = ReliefHeld {
-                integrator: reader.integrator,
-                blocks: reader.blocks,
-            };
-            let passed = answer_lines::<ReliefLines, _, _>(
-                text, out, times, integrals, &mut held, first, at,
-            );
-            reader.integrator = held.integrator;
-            reader.blocks = held.blocks;
-            passed
+            let relief = &mut reader.relief;
+            answer_lines::<ReliefLines, _, _>(text, out, times, integrals, relief, first, at)
         }
         Kind::Econ => {
             let econ = &mut reader.econ;

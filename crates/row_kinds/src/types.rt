@@ -1,23 +1,21 @@
 // What the reader carries from chunk to chunk, and what a chunk gives.
 ghost use Rattle.std.specs.Prelude.{◌≡◌};
-ghost use Rattle.row_kinds.specs.Rows.{no_points, fresh_at};
+ghost use Rattle.row_kinds.specs.Rows.{fresh_at};
 
 use crate::kind::Phase;
 use economizer_controller::step::economizer_fresh;
 use economizer_controller::types::EconomizerState;
 use freeze_protection::step::freeze_fresh;
 use freeze_protection::types::FreezeState;
-use moving_average::lent::Integrator;
-use relief_fan_group::step::relief_blocks;
-use relief_fan_group::types::ReliefBlocks;
+use relief_fan_group::lent::held_fresh;
+use relief_fan_group::types::ReliefHeld;
 
 // What is carried from chunk to chunk, but the arrays of the relief window and the bytes kept of a line.
 #[derive(Clone, Copy)]
 pub struct RowReader {
     pub phase: Phase,
     pub freeze: FreezeState,
-    pub integrator: Integrator,
-    pub blocks: ReliefBlocks,
+    pub relief: ReliefHeld,
     pub econ: EconomizerState,
 }
 
@@ -28,18 +26,6 @@ pub struct Fed {
     pub sent: usize,
 }
 
-// The integrator of an empty window.
-pub fn no_points() -> Integrator
-    ensures { result ≡ no_points }
-{
-    Integrator {
-        t_start: 0.0,
-        prev_t: None,
-        mu: 0.0,
-        count: 0,
-    }
-}
-
 // A reader at a phase, with the fresh state of each kind.
 #[tactic(auto, unfolding(crate::specs::Rows::fresh_at))]
 pub fn fresh_at(phase: Phase) -> RowReader
@@ -48,8 +34,7 @@ pub fn fresh_at(phase: Phase) -> RowReader
     RowReader {
         phase,
         freeze: freeze_fresh(),
-        integrator: no_points(),
-        blocks: relief_blocks(),
+        relief: held_fresh(),
         econ: economizer_fresh(),
     }
 }

@@ -8,10 +8,10 @@ use columns::line::write_status_line;
 use economizer_controller::step::economizer_fresh;
 use freeze_protection::step::freeze_fresh;
 use line_stream::{keep, line_end};
-use relief_fan_group::step::relief_blocks;
+use relief_fan_group::lent::held_fresh;
 use row_kinds::kind::{Kind, Phase, phase_after};
 use row_kinds::rows::{Passed, pass_rows};
-use row_kinds::types::{Fed, RowReader, no_points};
+use row_kinds::types::{Fed, RowReader};
 
 // Rows of a kind from a fresh state. The states of the other kinds stay.
 fn start(kind: Kind, times: &mut [f64; 512], integrals: &mut [f64; 512], reader: &mut RowReader)
@@ -24,8 +24,7 @@ fn start(kind: Kind, times: &mut [f64; 512], integrals: &mut [f64; 512], reader:
         Kind::Relief => {
             *times = [0.0; 512];
             *integrals = [0.0; 512];
-            reader.integrator = no_points();
-            reader.blocks = relief_blocks();
+            reader.relief = held_fresh();
         }
         Kind::Econ => reader.econ = economizer_fresh(),
     }

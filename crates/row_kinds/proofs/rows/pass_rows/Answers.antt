@@ -11,8 +11,8 @@ returns-in-Freeze c =
 
 pub returns-in-Relief : goal.returns-in-Relief
 returns-in-Relief c =
-    let a = c.answer_lines-passed.ensures in
-    relief_passed c.args.reader.now _ _ _ _ _ _ _ _ _ (c.requires.at_rows ∙ ap Rows c.in-Relief.is) _ _ _ _ a.window a.answered
+    let a = c.answer_lines-in-Relief.ensures in
+    relief_passed c.args.reader.now _ _ _ _ _ _ _ _ _ (c.requires.at_rows ∙ ap Rows c.in-Relief.is) _ _ _ a.window a.answered
 
 pub returns-in-Econ : goal.returns-in-Econ
 returns-in-Econ c =
