@@ -12,6 +12,7 @@ use borrow.Author.Tests.{leb-true, leb-false, eqb-true, eqb-false, lt-ltb, le-le
 use Rattle.std.specs.Prelude.{Option, Some, None, option_map, option_and_then, nat_eq}
 use Rattle.std.specs.Cmp.Lexicographic.{pointwise}
 use Rattle.std.specs.Bool.{then_some}
+use Rattle.columns.specs.declared.scan.Number as declared
 use Rattle.columns.specs.Scan.{limit, number, scan}
 use Rattle.columns.specs.ScanSteps.{value_with, value_after, after_spaces, minus_first, after_minus, is_digit}
 use Rattle.columns.proofs.Scanning.{Seen, Blank, Minus, Number, Bad, digit_of, digit_then, step_of, scan_to, digit_of_lem, below_digits, above_digits, a_digit}
@@ -117,16 +118,23 @@ unfolding after_spaces
 spaces_end [] h = refl
 spaces_end (b ∷ l) h = rw (ne_eqb b 32 (λ e. h l (ap (λ (x : ℕ). x ∷ l) e))) refl
 
-pub minus_there : (text rest : List ℕ) → text ≡ 45 ∷ rest → (true ≡ minus_first text) × (rest ≡ after_minus text)
-unfolding minus_first after_minus
-minus_there text rest e = (sym (ap minus_first e), sym (ap after_minus e))
+pub minus_there : (text : List ℕ) → pointwise nat_eq (take 1 text) (45 ∷ []) ≡ true → true ≡ minus_first text
+unfolding minus_first
+minus_there text e = sym (ap minus_first (stripped 45 text _ e refl))
 
-pub minus_none : (text : List ℕ) → ((rest : List ℕ) → text ≡ 45 ∷ rest → ⊥) → (false ≡ minus_first text) × (text ≡ after_minus text)
-unfolding minus_first after_minus
-minus_none [] h = (refl, refl)
-minus_none (b ∷ l) h =
-    let n : eqb b 45 ≡ false = ne_eqb b 45 (λ e. h l (ap (λ (x : ℕ). x ∷ l) e)) in
-    (sym n, rw n refl)
+pub minus_left : (text rest : List ℕ) → pointwise nat_eq (take 1 text) (45 ∷ []) ≡ true → rest ≡ drop 1 text → rest ≡ after_minus text
+unfolding after_minus
+minus_left text rest e f = sym (ap after_minus (stripped 45 text rest e f))
+
+pub minus_none : (text : List ℕ) → ((rest : List ℕ) → text ≡ 45 ∷ rest → ⊥) → false ≡ minus_first text
+unfolding minus_first
+minus_none [] h = refl
+minus_none (b ∷ l) h = sym (ne_eqb b 45 (λ e. h l (ap (λ (x : ℕ). x ∷ l) e)))
+
+pub minus_all : (text : List ℕ) → ((rest : List ℕ) → text ≡ 45 ∷ rest → ⊥) → text ≡ after_minus text
+unfolding after_minus
+minus_all [] h = refl
+minus_all (b ∷ l) h = rw (ne_eqb b 45 (λ e. h l (ap (λ (x : ℕ). x ∷ l) e))) refl
 
 -- ---- the whole column
 
@@ -232,7 +240,7 @@ module _ (c : List ℕ) (long : length c ≡ 21) (text : List ℕ) (spaces : tex
       ∙ ap (λ (k : ℕ). finish (read_on (digit_then k (Number neg k)) (x ∷ l))) (sym d)
       ∙ digits_read b (x ∷ l) e
 
-  pub zero_value : (b : ℕ) (rest : List ℕ) → digits ≡ b ∷ rest → b ≡ 48 → (alone : Bool) → alone ≡ eqb (length rest) 0 → then_some alone (number neg 0) ≡ scan c
+  zero_value : (b : ℕ) (rest : List ℕ) → digits ≡ b ∷ rest → b ≡ 48 → (alone : Bool) → alone ≡ eqb (length rest) 0 → then_some alone (number neg 0) ≡ scan c
   zero_value b [] e z alone f =
       ap (λ (t : Bool). then_some t (number neg 0)) f
       ∙ sym (ap (λ (k : ℕ). finish (read_on (digit_then k (Number neg k)) [])) (ap digit_of z ∙ digit_of_lem 0 (omega arith)))
@@ -241,8 +249,22 @@ module _ (c : List ℕ) (long : length c ≡ 21) (text : List ℕ) (spaces : tex
       ap (λ (t : Bool). then_some t (number neg 0)) (f ∙ ne_eqb (length (x ∷ l)) 0 (λ n. omega arith))
       ∙ zero_first b (x ∷ l) e z (λ n. omega arith)
 
-  pub digits_value : (b : ℕ) (rest : List ℕ) → digits ≡ b ∷ rest → (b ≡ 48 → ⊥) → (o : Option ℕ) → o ≡ value_after 0 digits → option_map (number neg) o ≡ scan c
+  digits_value : (b : ℕ) (rest : List ℕ) → digits ≡ b ∷ rest → (b ≡ 48 → ⊥) → (o : Option ℕ) → o ≡ value_after 0 digits → option_map (number neg) o ≡ scan c
   digits_value b rest e z o f =
       ap (λ (x : Option ℕ). option_map (number neg) x) (f ∙ ap (λ (l : List ℕ). value_after 0 l) e)
       ∙ first_value neg b rest (λ k. absurd (z k))
       ∙ digits_read b rest e
+
+  pub no_value : (b : ℕ) (rest : List ℕ) → digits ≡ b ∷ rest → (b ≡ 48 → ⊥) → None ≡ value_after 0 digits → None ≡ scan c
+  no_value b rest e z f = digits_value b rest e z None f
+
+-- and the number that is given
+module _ (c : List ℕ) (long : length c ≡ 21) (text : List ℕ) (spaces : text ≡ after_spaces c) (digits : List ℕ) (there : digits ≡ after_minus text)
+    (b : ℕ) (rest : List ℕ) (first : digits ≡ b ∷ rest) (x : declared.Number) (sign : x.negative ≡ minus_first text) where
+  pub a_zero : b ≡ 48 → x.value ≡ 0 → (alone : Bool) → alone ≡ eqb (length rest) 0 → then_some alone x ≡ scan c
+  a_zero z v alone f =
+      ap (λ (k : ℕ). then_some alone (number x.negative k)) v
+      ∙ zero_value c long text spaces digits x.negative sign there b rest first z alone f
+
+  pub a_value : (b ≡ 48 → ⊥) → Some x.value ≡ value_after 0 digits → Some x ≡ scan c
+  a_value z f = digits_value c long text spaces digits x.negative sign there b rest first z (Some x.value) f

@@ -6,7 +6,8 @@ use mathlib.Core.Bool.{Bool, true, false, ◌&&◌}
 use native.Mathlib.Omega.{arith}
 use native.Mathlib.Numerals.{add-one, unary_clauses}
 use native.Mathlib.Nat.{pow-suc, mul_assoc}
-use lib.ListN.{length, get_or}
+use lib.ListN.{length, get_or, take, drop}
+use Rattle.std.proofs.lemmas.List.{get_or-take, get_or-drop}
 use borrow.Author.Tests.{leb-true, eqb-true, eqb-false}
 use lib.Dec.{leb, eqb}
 use Rattle.std.specs.Prelude.{Some, None}
@@ -29,7 +30,7 @@ module _ (p : ℕ → Bool) (c : List ℕ) (at : ℕ) where
   unfolding every
   every_more n = refl
 
-  pub every_next : (n b : ℕ) (good : Bool) → good ≡ every p c at n → b ≡ get_or c (at + n) 0 → good && p b ≡ every p c at (n + 1)
+  every_next : (n b : ℕ) (good : Bool) → good ≡ every p c at n → b ≡ get_or c (at + n) 0 → good && p b ≡ every p c at (n + 1)
   every_next n b good e f = ap₂ (λ (g : Bool) (x : ℕ). g && p x) e f ∙ sym (ap (λ (k : ℕ). every p c at k) (add-one n) ∙ every_more n)
 
   -- holds of the first and of the last
@@ -70,6 +71,18 @@ every_front p c at (suc n) f e =
     let b = every_both p c (suc at) n e in
     let q : suc at + n ≡ at + suc n = omega arith in
     every_one_more p c at (suc n) (every_front p c at n f b.0) (rw q at b.1)
+
+-- one more of the first 20, or of the last 19
+module _ (c : List ℕ) (i : ℕ) (good : Bool) where
+  pub space_next : good ≡ every is_space c 0 i → i < 20 → good && is_space (get_or (take 20 c) i 0) ≡ every is_space c 0 (i + 1)
+  space_next e h =
+      let z : 0 + i ≡ i = omega arith in
+      every_next is_space c 0 i _ good e (rw z (get_or-take 20 c i 0 h))
+
+  pub digit_next : good ≡ every is_digit c 2 i → i < 19 → (d : Bool) → d ≡ is_digit (get_or (take 19 (drop 2 c)) i 0) → good && d ≡ every is_digit c 2 (i + 1)
+  digit_next e h d is =
+      ap (λ (t : Bool). good && t) is
+      ∙ every_next is_digit c 2 i _ good e (get_or-take 19 (drop 2 c) i 0 h ∙ get_or-drop 2 c i 0)
 
 -- ---- digits as a number
 

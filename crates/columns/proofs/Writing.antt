@@ -27,15 +27,15 @@ text_one : (m w n : ℕ) → n < 10 → text m (suc (suc w)) n ≡ replicate w 3
 text_one m w n h = simp (lt-ltb _ _ h) (append_snoc (replicate w 32) m ((48 + n % 10) ∷ []))
 
 -- a text that is 21 wide after the mark of a sign is a column
-pub column_text : (l : List ℕ) (m : ℕ) (negative : Bool) (n : ℕ) → m ≡ mark negative → l ≡ text m 21 n → l ≡ column negative n
+pub column_text : (m : ℕ) (negative : Bool) (n : ℕ) → m ≡ mark negative → text m 21 n ≡ column negative n
 unfolding column
-column_text l m negative n e f = f ∙ ap (λ (x : ℕ). text x 21 n) e
+column_text m negative n e = ap (λ (x : ℕ). text x 21 n) e
 
 -- a number of one digit
 pub column_one : (m : ℕ) (negative : Bool) (n : ℕ) → m ≡ mark negative → n < 10 → replicate 19 32 ++ (m ∷ (48 + n) ∷ []) ≡ column negative n
 column_one m negative n e h =
     let r : n % 10 ≡ n = omega arith in
-    column_text _ m negative n e (ap (λ (k : ℕ). replicate 19 32 ++ (m ∷ (48 + k) ∷ [])) (sym r) ∙ sym (text_one m 19 n h))
+    ap (λ (k : ℕ). replicate 19 32 ++ (m ∷ (48 + k) ∷ [])) (sym r) ∙ sym (text_one m 19 n h) ∙ column_text m negative n e
 
 -- what is written of the text of n when a number is left: the first k places are spaces still, there is room in them for that number and the mark, and
 -- its text in them and the bytes after them are the text of n

@@ -10,6 +10,7 @@ fn mark(negative: bool) -> u8
 }
 
 // Writes the column of a number of one digit, or of its negation.
+#[tactic(auto, using(crate::proofs::Writing::column_one))]
 fn write_digit(out: &mut [u8; 21], negative: bool, n: u64)
     requires { n < 10 }
     ensures { out.new ≡ column negative n }
@@ -21,6 +22,7 @@ fn write_digit(out: &mut [u8; 21], negative: bool, n: u64)
 
 // Writes a number at the end of W places, after a mark, its digits from the last on. It is kept a call of its own, so that the numbers that rows mostly
 // hold are written with no call.
+#[tactic(auto, using(crate::proofs::Writing::from_start, crate::proofs::Writing::from_more, crate::proofs::Writing::from_end))]
 #[inline(never)]
 fn write_text<const W: usize>(out: &mut [u8; W], before: u8, n: u64)
     requires { (2 ≤ W) × (n < 10 ^ (W - 1)) }
@@ -41,6 +43,7 @@ fn write_text<const W: usize>(out: &mut [u8; W], before: u8, n: u64)
 // The eight digits of a number. They are worked in a word of 64 bits, the first the lowest: it is cut into lanes of four digits, of two and of one, all at
 // the same time. A lane of d is turned into one of the quotient of d and one of the remainder above it; 10486 / 2^20 is a little above 1 / 100, and
 // 103 / 2^10 a little above 1 / 10, so that they give the quotients, which the masks keep.
+#[tactic(auto, using(crate::proofs::Writing::digits_bytes, crate::proofs::Lanes::hundreds_fit, crate::proofs::Lanes::twos_small, crate::proofs::Lanes::tens_fit, crate::proofs::Lanes::digits_packed))]
 fn eight_digits(n: u64) -> [u8; 8]
     requires { n < 100000000 }
     ensures { result ≡ digits 8 n }
@@ -84,6 +87,7 @@ fn write_long(out: &mut [u8; 21], negative: bool, n: u64)
 }
 
 // Writes a number, or its negation, into the 21 places of a column. Rows hold mostly numbers of one digit, and of 19 or 20.
+
 fn write_number(out: &mut [u8; 21], negative: bool, n: u64)
     ensures { out.new ≡ column negative n }
 {

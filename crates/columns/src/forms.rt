@@ -101,6 +101,7 @@ fn column_of(line: &[u8], k: usize) -> &[u8]
 }
 
 // Helper. The words of the columns of a line; none where it is badly formed.
+#[tactic(auto, using(crate::proofs::Loops::read_start, crate::proofs::Loops::read_bad, crate::proofs::Loops::read_end, crate::proofs::Loops::read_none))]
 pub fn read_columns<const N: usize>(line: &[u8], forms: &[Form; N]) -> Option<[u64; N]>
     requires { N ≤ 12 }
     ensures { result ≡ read_line forms.now line.now }
@@ -116,6 +117,7 @@ pub fn read_columns<const N: usize>(line: &[u8], forms: &[Form; N]) -> Option<[u
 }
 
 // Helper. Writes words as columns, as far as they go, and gives the place after them.
+#[tactic(auto, using(crate::proofs::Loops::write_start, crate::proofs::Loops::write_step, crate::proofs::Loops::write_end))]
 pub fn write_columns<const N: usize, const M: usize>(
     out: &mut [u8],
     at: usize,

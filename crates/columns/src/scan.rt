@@ -30,6 +30,7 @@ fn value_with(value: u64, byte: u8) -> Option<u64>
 }
 
 // The number of digits.
+#[tactic(auto, using(crate::proofs::Bytes::value_step, crate::proofs::Bytes::value_stop, crate::proofs::Bytes::value_end))]
 fn value_of(digits: &[u8]) -> Option<u64>
     ensures { result ≡ value_after 0 digits.now }
 {
@@ -41,6 +42,7 @@ fn value_of(digits: &[u8]) -> Option<u64>
 }
 
 // What is left after spaces.
+#[tactic(auto, using(crate::proofs::Bytes::stripped, crate::proofs::Bytes::not_stripped, crate::proofs::Bytes::spaces_more, crate::proofs::Bytes::spaces_end))]
 fn after_spaces(column: &[u8]) -> &[u8]
     ensures { result.now ≡ after_spaces column.now }
 {
@@ -52,6 +54,7 @@ fn after_spaces(column: &[u8]) -> &[u8]
 }
 
 // Whether a minus is the first byte, and what is left after it.
+#[tactic(auto, using(crate::proofs::Bytes::stripped, crate::proofs::Bytes::not_stripped, crate::proofs::Bytes::minus_there, crate::proofs::Bytes::minus_left, crate::proofs::Bytes::minus_none, crate::proofs::Bytes::minus_all))]
 fn after_minus(text: &[u8]) -> (bool, &[u8])
     ensures { (result.0 ≡ minus_first text.now) × (result.1.now ≡ after_minus text.now) }
 {
@@ -63,6 +66,7 @@ fn after_minus(text: &[u8]) -> (bool, &[u8])
 
 // The number of any column, byte by byte: spaces, at most one minus, and digits with no leading zero up to its end, of a number below 2^64. It is kept a
 // call of its own, so that the columns that rows mostly hold are read with fewer registers put aside.
+#[tactic(auto, using(crate::proofs::Bytes::no_digits, crate::proofs::Bytes::no_value))]
 #[inline(never)]
 fn scan_bytes(column: &[u8; 21]) -> Option<Number>
     ensures { result ≡ scan column.now }
@@ -77,6 +81,7 @@ fn scan_bytes(column: &[u8; 21]) -> Option<Number>
 }
 
 // Whether there are spaces in the first 20 places. It looks at each, so that many are looked at together.
+#[tactic(auto, using(crate::proofs::Digits::every_none, crate::proofs::Digits::space_next))]
 fn is_blank(column: &[u8; 21]) -> bool
     ensures { result ≡ every is_space column.now 0 20 }
 {
@@ -88,6 +93,7 @@ fn is_blank(column: &[u8; 21]) -> bool
 }
 
 // Whether there are digits in the last 19 places.
+#[tactic(auto, using(crate::proofs::Digits::every_none, crate::proofs::Digits::digit_next))]
 fn is_long(column: &[u8; 21]) -> bool
     ensures { result ≡ every is_digit column.now 2 19 }
 {
@@ -134,6 +140,7 @@ fn nineteen(column: &[u8; 21]) -> u64
 
 // The number of a column. A digit after 20 spaces, and 19 or 20 digits, which are what rows mostly hold, are not read byte by byte. Of 20 digits the first
 // is a 1, and the others are at most those of 2^64 - 1.
+#[tactic(auto, using(crate::proofs::Inverse::scan_length, crate::proofs::Digits::digit_seen, crate::proofs::Digits::long_seen, crate::proofs::Digits::longer_seen, crate::proofs::Digits::too_long))]
 pub fn scan(column: &[u8]) -> Option<Number>
     ensures { result ≡ scan column.now }
 {

@@ -15,6 +15,6 @@ returns c =
     let x = c.copy_from_slice-2.ensures.after ∙ c.eight_digits.ensures in
     let y = c.copy_from_slice-3.ensures.after ∙ c.eight_digits-2.ensures in
     let whole : length c.args.out.now ≡ 21 = search rules in
-    column_text _ m c.args.negative n c.mark.ensures
-    (put_both _ _ _ _ (ap length a ∙ length_text m 5 high) (ap length x ∙ length_digits 8 (low / 100000000)) (length-drop 5 c.args.out.now ∙ omega (arith, whole))
-    ∙ rw (a, x, y) (sym (text_groups m high (low / 100000000) (low % 100000000) n (omega arith) (omega arith) (omega arith) (omega arith))))
+    put_both _ _ _ _ (ap length a ∙ length_text m 5 high) (ap length x ∙ length_digits 8 (low / 100000000)) (length-drop 5 c.args.out.now ∙ omega (arith, whole))
+    ∙ rw (a, x, y) (sym (text_groups m high (low / 100000000) (low % 100000000) n (omega arith) (omega arith) (omega arith) (omega arith)))
+    ∙ column_text m c.args.negative n c.mark.ensures
