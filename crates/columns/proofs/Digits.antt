@@ -1,5 +1,5 @@
 -- The digits of a column read in groups: each group is a number, and the numbers make that of the column. Assumes nothing.
-use Prim.Native.Nat.{ℕ, zero, suc, ◌+◌, ◌-◌, ◌*◌, ◌^◌, ◌≤◌, ◌<◌}
+use Prim.Native.Nat.{ℕ, zero, suc, ◌+◌, ◌-◌, ◌*◌, ◌/◌, ◌%◌, ◌^◌, ◌≤◌, ◌<◌}
 use mathlib.Core.Path.{◌≡◌, refl, sym, ap, ap₂, subst, ◌∙◌}
 use mathlib.Core.List.{List}
 use mathlib.Core.Bool.{Bool, true, false, ◌&&◌}
@@ -15,7 +15,9 @@ use Rattle.columns.specs.Scan.{limit, number, scan}
 use Rattle.columns.specs.ScanSteps.{is_space, is_digit, every, number_at}
 use Rattle.columns.proofs.Scanning.{Blank, Number, scan_to}
 use Rattle.columns.proofs.Inverse.{both}
-use Rattle.columns.proofs.Lanes.{word_of, Joined, joined}
+use mir.Syntax.{w64}
+use Rattle.std.specs.Int.{from_le_bytes}
+use Rattle.columns.proofs.Lanes.{word_of, ones_in, fours_in, Joined, joined}
 use Rattle.columns.proofs.Ways.{space_more, first_digit, next_digit, too_large, whole}
 
 -- ---- a test of each byte
@@ -156,6 +158,27 @@ module _ (c : List ℕ) (at : ℕ) (e : every is_digit c at 8 ≡ true) where
       subst (λ (n : ℕ). Joined word n) (sym number_eight)
       (joined _ _ _ _ _ _ _ _ d0.1 d1.1 d2.1 d3.1 d4.1 d5.1 d6.1 d7.1 word
       (q ∙ same_word _ _ _ _ _ _ _ _ _ _ _ _ _ _ _ _ d0.0 d1.0 d2.0 d3.0 d4.0 d5.0 d6.0 d7.0))
+
+-- what is worked from the bytes of eight digits as a word
+module _ (c : List ℕ) (at : ℕ) (good : every is_digit c at 8 ≡ true) (bytes : List ℕ) (are : bytes ≡ take 8 (drop at c)) (word : ℕ) (is : word ≡ from_le_bytes w64 bytes) where
+  byte_at : (i : ℕ) → i < 8 → get_or bytes i 0 ≡ get_or c (at + i) 0
+  byte_at i h = ap (λ (l : List ℕ). get_or l i 0) are ∙ get_or-take 8 (drop at c) i 0 h ∙ get_or-drop at c i 0
+
+  eight_joined : Joined word (number_at c at 8)
+  eight_joined =
+      let o : at + 0 ≡ at = omega arith in
+      let b0 : get_or bytes 0 0 ≡ get_or c at 0 = byte_at 0 (omega arith) ∙ ap (λ (k : ℕ). get_or c k 0) o in
+      eight_read c at good word
+      (omega (arith, is, b0, byte_at 1 (omega arith), byte_at 2 (omega arith), byte_at 3 (omega arith), byte_at 4 (omega arith), byte_at 5 (omega arith), byte_at 6 (omega arith), byte_at 7 (omega arith)))
+
+  pub eight_least : 3472328296227680304 ≤ word
+  eight_least = eight_joined.least
+
+  pub eight_small : ones_in word < 720575940379279360
+  eight_small = eight_joined.ones_small
+
+  pub eight_is : (fours_in word * 10000 + fours_in word / 4294967296) % 4294967296 ≡ number_at c at 8
+  eight_is = eight_joined.is
 
 -- the digits of two groups
 pub number_join : (c : List ℕ) (at m n : ℕ) → number_at c at (m + n) ≡ number_at c at m * 10 ^ n + number_at c (at + m) n

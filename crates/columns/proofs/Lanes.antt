@@ -186,13 +186,13 @@ fours_step y b a mask h i j =
 abbrev pub word_of : ℕ → ℕ → ℕ → ℕ → ℕ → ℕ → ℕ → ℕ → ℕ
 word_of a b c d e f g h = a + b * 256 + (c + d * 256) * 65536 + (e + f * 256 + (g + h * 256) * 65536) * 4294967296
 
-abbrev ones_in : ℕ → ℕ
+abbrev pub ones_in : ℕ → ℕ
 ones_in word = word - 3472328296227680304
 
-abbrev twos_in : ℕ → ℕ
+abbrev pub twos_in : ℕ → ℕ
 twos_in word = bit_and (ones_in word * 10 + ones_in word / 256) 71777214294589695
 
-abbrev fours_in : ℕ → ℕ
+abbrev pub fours_in : ℕ → ℕ
 fours_in word = bit_and (twos_in word * 100 + twos_in word / 65536) 281470681808895
 
 last_lane : (y a : ℕ) → a < 10 → (y * 256 + a) % 256 < 10

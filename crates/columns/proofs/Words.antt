@@ -1,16 +1,17 @@
 -- One column: the column of a word is read as that word, and a column that is read as a word is its column. Assumes nothing.
-use Prim.Native.Nat.{ℕ, suc, ◌-◌, ◌≤◌, ◌<◌}
+use Prim.Native.Nat.{ℕ, suc, ◌-◌, ◌%◌, ◌≤◌, ◌<◌}
 use mathlib.Core.Path.{◌≡◌, refl, sym, ap, ◌∙◌}
 use mathlib.Core.List.{List}
-use mathlib.Core.Bool.{Bool, true, false, cond, ◌&&◌, true≢false}
+use mathlib.Core.Bool.{Bool, true, false, cond, not, ◌&&◌, true≢false}
 use native.Mathlib.Omega.{arith}
-use lib.Dec.{ltb, leb}
+use lib.Dec.{T, ltb, leb}
 use lib.ListN.{length}
 use lib.IntN.{ℤ, pos, negsuc}
 use mir.ValLaws.{to_z_pos, to_z-neg}
 use mir.Syntax.{w64}
-use lib.Ieee.{Float, nan, inf, fin, binary64, to_bits, is_nan}
-use borrow.Author.Tests.{ltb-true, ltb-false, leb-true, leb-false, lt-ltb, le-leb, lt-leb}
+use lib.Ieee.{Float, nan, inf, fin, binary64, to_bits, of_bits, of_fields, odd, nan_bits, is_nan}
+use lib.Ieee.Bits.{nan_bits_is, nan_bits_above}
+use borrow.Author.Tests.{ltb-true, ltb-false, leb-true, leb-false, lt-ltb, le-ltb, le-leb, lt-leb}
 use Rattle.columns.specs.Column.{column}
 use Rattle.std.specs.Prelude.{Some, None}
 use Rattle.std.specs.Option.{is_some, unwrap_or}
@@ -200,7 +201,19 @@ nan_is nan e = refl
 nan_is (inf s) e = cc
 nan_is (fin s m k) e = cc
 
+-- the patterns above that of infinity, sign aside, are those of the NaNs
+pub nan_read : (n : ℕ) → 9218868437227405312 < n % 9223372036854775808 → of_bits binary64 9221120237041090560 ≡ of_bits binary64 n
+unfolding of_bits of_fields odd
+nan_read n h = nan_is (of_bits binary64 n) (sym (nan_bits_is binary64 n) ∙ nan_bits_above binary64 n ∙ lt-ltb _ _ h)
+
+pub not_nan : (n : ℕ) → n % 9223372036854775808 ≤ 9218868437227405312 → T (not (nan_bits binary64 n))
+not_nan n h = rw (nan_bits_above binary64 n, le-ltb _ _ h) tt
+
 -- any NaN prints 9221120237041090560
+pub nan_pattern : (x : Float) → is_nan x ≡ true → 9221120237041090560 ≡ to_bits binary64 x
+unfolding to_bits
+nan_pattern x e = ap (λ (y : Float). to_bits binary64 y) (nan_is x e)
+
 pub nan_prints : word_column variant.Float (to_bits binary64 nan) ≡ word_column variant.Float 9221120237041090560
 unfolding to_bits
 nan_prints = refl

@@ -114,13 +114,15 @@ fn two(column: &[u8; 21], at: usize) -> u64
 }
 
 // The number of eight digits, from their bytes as a word: those of two, of four and of all in lanes, all at the same time.
+#[tactic(auto, using(crate::proofs::Digits::eight_small, crate::proofs::Digits::eight_is))]
 fn eight(column: &[u8; 21], at: usize) -> u64
     requires { (at + 8 ≤ 21) × (every is_digit column.now at 8 ≡ true) }
     ensures { result ≡ number_at column.now at 8 }
 {
-    let mut bytes = [0; 8];
-    bytes.copy_from_slice(&column[at..at + 8]);
-    let ones = u64::from_le_bytes(bytes) - 0x3030_3030_3030_3030;
+    let Some(bytes) = column[at..].first_chunk() else {
+        unreachable!()
+    };
+    let ones = u64::from_le_bytes(*bytes) - 0x3030_3030_3030_3030;
     let twos = (ones * 10 + ones / 256) & 0x00ff_00ff_00ff_00ff;
     let fours = (twos * 100 + twos / 65536) & 0x0000_ffff_0000_ffff;
     (fours * 10000 + fours / 4294967296) % 4294967296

@@ -5,6 +5,7 @@ ghost use Rattle.std.specs.Float.{binary64};
 ghost use Rattle.columns.specs.Word.{yes_no_word, word_signed, signed_word};
 
 // The float of a pattern; a NaN for any pattern of a NaN. There is one NaN here, and it has no bits, so patterns of NaNs are told apart from the others first.
+#[tactic(auto, using(crate::proofs::Words::nan_read, crate::proofs::Words::not_nan))]
 pub fn of_pattern(n: u64) -> f64
     ensures { result ≡ of_bits binary64 n }
 {
@@ -15,6 +16,7 @@ pub fn of_pattern(n: u64) -> f64
 }
 
 // The pattern of a float; that of the quiet NaN with no sign for a NaN.
+#[tactic(auto, using(crate::proofs::Words::nan_pattern))]
 pub fn pattern(x: f64) -> u64
     ensures { result ≡ to_bits binary64 x }
 {
