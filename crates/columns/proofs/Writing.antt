@@ -12,6 +12,7 @@ use borrow.Author.Tests.{lt-ltb, le-ltb}
 use Rattle.std.specs.Int.{to_le_bytes}
 use mir.Syntax.{w64}
 use Rattle.columns.specs.Column.{mark, text, digits, column, over, Wrote}
+use Rattle.columns.proofs.Scanning.{length_text}
 
 -- ---- a number written from its last digit on
 
@@ -289,6 +290,17 @@ put_both a x y r e f g =
     ∙ put_next (a ++ x) y (drop 8 r) 13 8 (length-append a x ∙ omega (arith, e, f))
     ∙ ap (λ (t : List ℕ). a ++ x ++ y ++ t) none
     ∙ append-nil (a ++ x ++ y)
+
+-- so a column of 17 digits or more, put by its parts
+pub long_column : (old a x y : List ℕ) (m : ℕ) (negative : Bool) (n : ℕ) → 10000000000000000 ≤ n → length old ≡ 21 → m ≡ mark negative
+    → a ≡ text m 5 (n / 10000000000000000) → x ≡ digits 8 (n % 10000000000000000 / 100000000) → y ≡ digits 8 (n % 10000000000000000 % 100000000)
+    → take 13 (take 5 (a ++ drop 5 old) ++ (x ++ drop 8 (drop 5 (a ++ drop 5 old))))
+    ++ (y ++ drop 8 (drop 13 (take 5 (a ++ drop 5 old) ++ (x ++ drop 8 (drop 5 (a ++ drop 5 old))))))
+    ≡ column negative n
+long_column old a x y m negative n large whole e f g h =
+    put_both a x y (drop 5 old) (ap length f ∙ length_text m 5 (n / 10000000000000000)) (ap length g ∙ length_digits 8 (n % 10000000000000000 / 100000000)) (length-drop 5 old ∙ omega (arith, whole))
+    ∙ rw (f, g, h) (sym (text_groups m (n / 10000000000000000) (n % 10000000000000000 / 100000000) (n % 10000000000000000 % 100000000) n (omega arith) (omega arith) (omega arith) (omega arith)))
+    ∙ column_text m negative n e
 
 -- two texts, the second where the first ends, are one
 pub wrote_both : (l l' l'' : List ℕ) (at at' at'' : ℕ) (a b : List ℕ) (n m : ℕ) → at + n ≤ length l
