@@ -1,5 +1,5 @@
 -- The outputs of a row (Guideline 36, freeze protection; the switches of FreezeProtection.mo).
-use Rattle.std.specs.Prelude.{ℕ, Bool, not, ◌&&◌, cond}
+use Rattle.std.specs.Prelude.{not, ◌&&◌}
 use Rattle.reals.specs.Constants.{plus_zero, one}
 use Rattle.reals.specs.Switch.{switch}
 use Rattle.freeze_protection.specs.declared.types.FreezeRow.{FreezeRow}

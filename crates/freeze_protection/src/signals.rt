@@ -50,7 +50,7 @@ pub fn stage_number(three: bool, two: bool, one: bool) -> u64
     if two {
         return 2;
     }
-    if one { 1 } else { 0 }
+    u64::from(one)
 }
 
 #[tactic(auto, unfolding(crate::specs::Signals::freeze_signals))]

@@ -1,6 +1,6 @@
-// CDL.Logical blocks, one row at a time: the state goes in by value, and the next one comes back. A block with unused bytes between its fields hands back a
-// struct made anew from them: a copy of the one that came in would copy those bytes too, at every row. Blocks have the fields of the Rust's records, so that the
-// time of an entry and the input before stand beside each other in several.
+// CDL.Logical blocks, one row at a time: the state goes in by value, as `mut self`, which is the form asked for, and the next one comes back. A block with unused
+// bytes between its fields hands back a struct made anew from them: a copy of the one that came in would copy those bytes too, at every row. Blocks have the
+// fields of the Rust's records, so that the time of an entry and the input before stand beside each other in several.
 #![tactic(auto)]
 
 pub mod edge; // CDL.Logical.Edge

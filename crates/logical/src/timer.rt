@@ -23,7 +23,7 @@ impl TimerOutput {
     }
 }
 
-// The time at which the input became true, at a row with input u at t; Never while it is false.
+// The time at which the input became true, at a row with input u at t; none while it is false.
 #[tactic(auto, unfolding(crate::specs::Timer::entry_time))]
 pub fn entry_time(entry: Option<f64>, prev_u: bool, t: f64, u: bool) -> Option<f64>
     ensures { result ≡ entry_time entry prev_u t u }

@@ -4,47 +4,30 @@ use mathlib.Core.Logic.{◌⊎◌, inl, inr}
 use mathlib.Core.Path.{◌≡◌, refl, sym, ap, ◌∙◌}
 use mathlib.Core.Bool.{cond}
 use mathlib.Core.List.{List, [], ◌∷◌, ◌++◌, zip_with, append_assoc}
-use native.Mathlib.Nat.{zero-add, add_comm}
+use native.Mathlib.Nat.{zero-add}
 use native.Mathlib.Numerals.{add-one}
 use native.Mathlib.Omega.{arith}
-use lib.ListN.{length, take, drop, get_or, set, length-append, length-drop}
-use lib.Seq.{length-take-le, get_or-append-add, get_or-drop, paste-suc, set_at, drop-cons, slice, length-slice}
+use lib.ListN.{length, take, drop, get_or, set, length-append, length-drop, take-append-drop}
+use lib.Seq.{length-take-le, set_at, drop-cons, slice, length-slice}
 use lib.Ieee.{Float, nan, le}
 use Rattle.std.proofs.lemmas.List.Sums.{prefix_len-le-length}
 use Rattle.moving_average.specs.Window.{Point, point}
 use Rattle.moving_average.specs.Integral.{on_line, integral_after, integral_at}
+use Rattle.std.specs.List.{copy_within}
 use Rattle.moving_average.specs.State.{written}
 use Rattle.moving_average.specs.Lent.{leading}
 
--- ---- `advance` and `put`: the first i entries are those from k on
-abbrev pub moved : ℕ → ℕ → List Float → List Float
-moved k i a = take i (drop k a) ++ drop i a
+-- ---- `put`: the j entries from k on come to the front, and x after them
+pub moved_none : (a : List Float) (j : ℕ) → a ≡ copy_within a 0 (0 + j) 0
+moved_none a j = let n : 0 + j - 0 ≡ j = omega arith in rw (n, zero-add) (sym (take-append-drop j a))
 
-front_length : (a : List Float) (k i : ℕ) → k + i ≤ length a → length (take i (drop k a)) ≡ i
-front_length a k i h = length-take-le i (drop k a) (omega (arith, length-drop k a))
-
-module _ (a : List Float) (k i : ℕ) (h : i + k < length a) where
-  moved_read : get_or (moved k i a) (i + k) nan ≡ get_or a (i + k) nan
-  moved_read =
-      ap (λ (n : ℕ). get_or (moved k i a) (n + k) nan) (sym (front_length a k i (omega arith)))
-      ∙ get_or-append-add (take i (drop k a)) (drop i a) k nan ∙ get_or-drop i a k nan
-
-  pub moved_turn : set (moved k i a) i (get_or (moved k i a) (i + k) nan) ≡ moved k (i + 1) a
-  moved_turn =
-      ap (set (moved k i a) i) (moved_read ∙ ap (λ (n : ℕ). get_or a n nan) (add_comm i k) ∙ sym (get_or-drop k a i nan))
-      ∙ rw (add-one) (simp zero-add at (paste-suc a 0 (drop k a) i nan (omega arith) (omega (arith, length-drop k a))))
-
-module _ (a : List Float) (k j : ℕ) (h : k + j ≤ length a) where
-  pub moved_end : moved k j a ≡ written (take j (drop k a)) a
-  unfolding written
-  moved_end = rw (front_length a k j h)
-
-  -- x after them
-  pub put_end : (x : Float) → j < length a → set (written (take j (drop k a)) a) j x ≡ written (take j (drop k a) ++ (x ∷ [])) a
-  unfolding written
-  put_end x l =
-      let e : length (take j (drop k a) ++ (x ∷ [])) ≡ suc j = length-append (take j (drop k a)) (x ∷ []) ∙ rw (front_length a k j h, add-one) in
-      rw (front_length a k j h, drop-cons a j nan l, set_at (take j (drop k a)) (get_or a j nan) (drop (suc j) a) x j (front_length a k j h), e, append_assoc)
+pub put_end : (a : List Float) (k j : ℕ) → k + j ≤ length a → (x : Float) → j < length a → set (copy_within a k (k + j) 0) j x ≡ written (take j (drop k a) ++ (x ∷ [])) a
+unfolding written
+put_end a k j h x l =
+    let n : k + j - k ≡ j = omega arith in
+    let front : length (take j (drop k a)) ≡ j = length-take-le j (drop k a) (omega (arith, length-drop k a)) in
+    let e : length (take j (drop k a) ++ (x ∷ [])) ≡ suc j = length-append (take j (drop k a)) (x ∷ []) ∙ rw (front, add-one) in
+    rw (n, zero-add, drop-cons a j nan l, set_at (take j (drop k a)) (get_or a j nan) (drop (suc j) a) x j front, e, append_assoc)
 
 -- ---- `old_points`: no more points go than there are
 pub gone_le : (c : Float) (ts : List Float) (n : ℕ) → n ≤ length ts → leading c (slice 1 n ts) ≤ n

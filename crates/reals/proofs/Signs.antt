@@ -1,53 +1,40 @@
--- What tells a number's kind and its sign bit: x − x is 0 exactly where x is finite; a number below 0 has its sign bit set, and 1 / x tells the two zeros apart.
--- Assumes nothing.
-use Prim.Native.Nat.{ℕ, zero, suc, ◌+◌, ◌*◌}
-use native.Mathlib.Nat.{mul-pos, mul-one, zero-mul, zero-lt-suc}
-use native.Mathlib.Omega.{arith}
-use mathlib.Core.Path.{◌≡◌, refl}
-use mathlib.Core.Bool.{Bool, true, false, ◌||◌}
-use lib.Dec.{T, eqb-suc-zero}
-use lib.IntN.{ℤ, pos}
-use lib.Ieee.{Float, nan, inf, fin, binary64, up, down, div, sub, eq, lt, round, of_bits}
-use lib.Ieee.Fits.{up_pos}
+-- The library's words for what is asked of a float are those of specs/Sign.antt and Switch.antt. Assumes nothing.
+use mathlib.Core.Path.{◌≡◌, refl, sym}
+use mathlib.Core.Bool.{Bool, true, false, true≢false}
+use lib.IntN.{pos}
+use lib.Ieee.{Float, nan, inf, fin, binary64, is_nan, of_int, of_bits}
 use lib.Ieee.Scale.{finite}
-use borrow.Author.Tests.{lt-ltb}
-use Rattle.reals.specs.Constants.{plus_zero, one}
-use Rattle.reals.specs.Sign.{is_sign_negative}
-use Rattle.reals.proofs.Round.{plain, zero_is, plain_not_below, round_plain}
-use Rattle.reals.proofs.Times.{self_gap}
+use Rattle.std.specs.Int.{from_bool}
+use Rattle.std.specs.Float as library
+use Rattle.std.specs.Float.{float_is_finite, float_with_sign}
+use Rattle.reals.specs.Sign.{is_sign_negative, abs}
+use Rattle.reals.specs.Switch.{bool_to_real}
 
-pub self_gap_zero : (x : Float) → eq (sub binary64 x x) plus_zero ≡ finite x
-unfolding sub eq
-self_gap_zero nan = refl
-self_gap_zero (inf true) = refl
-self_gap_zero (inf false) = refl
-self_gap_zero (fin s m e) = rw (self_gap (fin s m e) tt) (unfold of_bits in refl)
+pub finite_told : (x : Float) → float_is_finite x ≡ finite x
+unfolding float_is_finite
+finite_told nan = refl
+finite_told (inf s) = refl
+finite_told (fin s m e) = refl
 
-below_zero : (m : ℕ) (e : ℤ) → lt (fin true (suc m) e) (fin false 0 (pos 0)) ≡ true
-unfolding lt
-below_zero m e = lt-ltb 0 (suc m * up e * 1 + 0 * down e) (omega (arith, mul-pos (zero-lt-suc m) (up_pos e), mul-one (suc m * up e), zero-mul (down e)))
+pub sign_told : (x : Float) → library.is_sign_negative x ≡ is_sign_negative x
+unfolding library.is_sign_negative is_sign_negative
+sign_told nan = refl
+sign_told (inf s) = refl
+sign_told (fin s m e) = refl
 
-or_true : (b : Bool) → (b || true) ≡ true
-or_true true = refl
-or_true false = refl
+pub nan_unsigned : (x : Float) → is_nan x ≡ true → is_sign_negative x ≡ false
+unfolding is_nan is_sign_negative
+nan_unsigned nan e = refl
+nan_unsigned (inf s) e = absurd (true≢false (sym e))
+nan_unsigned (fin s m k) e = absurd (true≢false (sym e))
 
-not_below : (x : Float) → T (plain x) → lt x (fin false 0 (pos 0)) ≡ false
-not_below x h = rw (← zero_is) (plain_not_below x h)
+pub sign_cleared : (x : Float) → float_with_sign false x ≡ abs x
+unfolding float_with_sign abs
+sign_cleared nan = refl
+sign_cleared (inf s) = refl
+sign_cleared (fin s m e) = refl
 
--- the test, with 0 and 1 as they compute
-told : (x : Float) → (lt x (fin false 0 (pos 0)) || lt (div binary64 (fin false 1 (pos 0)) x) (fin false 0 (pos 0))) ≡ is_sign_negative x
-unfolding lt div is_sign_negative
-told nan = refl
-told (inf true) = refl
-told (inf false) = refl
-told (fin true zero e) = or_true (lt (fin true 0 e) (fin false 0 (pos 0)))
-told (fin true (suc m) e) = rw (below_zero m e) refl
-told (fin false zero e) = rw (not_below (fin false 0 e) tt) refl
-told (fin false (suc m) e) = rw (not_below (fin false (suc m) e) tt, eqb-suc-zero m) (not_below (round binary64 false (1 * 1 * down e) (suc m * up e * 1)) (round_plain binary64 (1 * 1 * down e) (suc m * up e * 1)))
-
-one_is : one ≡ fin false 1 (pos 0)
-unfolding of_bits
-one_is = refl
-
-pub sign_told : (x : Float) → (lt x plus_zero || lt (div binary64 one x) plus_zero) ≡ is_sign_negative x
-sign_told x = rw (zero_is, one_is) (told x)
+pub bool_told : (b : Bool) → of_int binary64 (pos (from_bool b)) ≡ bool_to_real b
+unfolding of_int of_bits bool_to_real
+bool_told true = refl
+bool_told false = refl

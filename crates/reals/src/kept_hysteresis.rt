@@ -1,4 +1,5 @@
-// `hysteresis` of cdl_recurrences.rs, a row at a time: where neither limit is crossed it keeps its output, at a NaN too.
+// `hysteresis` of cdl_recurrences.rs, a row at a time: where neither limit is crossed it keeps its output, at a NaN too. The
+// economizer's (hysteresis.rt) falls there, and its limits are constants.
 ghost use Rattle.std.specs.Prelude.{◌≡◌};
 ghost use Rattle.reals.specs.Hysteresis.{kept_hysteresis_new, kept_hysteresis_output, kept_hysteresis_update};
 

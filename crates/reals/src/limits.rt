@@ -5,7 +5,7 @@ ghost use Rattle.reals.specs.Limits.{limit, clamp};
 use crate::order::{greater, lesser};
 use crate::switch::switch;
 
-// `f64::clamp`: x, or the limit that it lies beyond. A NaN stays a NaN.
+// `f64::clamp`: x, or the limit that it lies beyond. A NaN stays a NaN. The library's asks that min ≤ max; this takes any limits.
 #[tactic(auto, unfolding(crate::specs::Limits::limit))]
 pub fn limit(x: f64, min: f64, max: f64) -> f64
     ensures { result ≡ limit x min max }

@@ -1,4 +1,5 @@
-// The greater and the lesser of two numbers, and the smallest of four.
+// The greater and the lesser of two numbers, and the smallest of four. Of two zeros each gives the first: the library's `max` and
+// `min` leave open which.
 ghost use Rattle.std.specs.Prelude.{◌≡◌};
 ghost use Rattle.reals.specs.Order.{greater, lesser, smallest};
 

@@ -1,4 +1,5 @@
 // The economizer's loop: that of `damper_limits_trace` in economizer_controller.rs, CDL.Reals.PIDWithReset as a PI controller sampled by forward Euler.
+// Beside the freeze loop, since its limits turn a NaN into a number and its state remembers a trigger; the sums are PidState's.
 ghost use Rattle.std.specs.Prelude.{◌≡◌};
 ghost use Rattle.reals.specs.Pid.{pid_with_reset_new, pid_with_reset_output, pid_with_reset_update};
 

@@ -11,9 +11,9 @@ pub fn switch<T: Copy>(u: bool, a: T, b: T) -> T
 }
 
 // 1 where the value is true, 0 where it is false.
-#[tactic(auto, unfolding(crate::specs::Switch::bool_to_real))]
+#[tactic(auto, using(crate::proofs::Signs::bool_told))]
 pub fn bool_to_real(value: bool) -> f64
     ensures { result ≡ bool_to_real value }
 {
-    if value { 1.0 } else { 0.0 }
+    f64::from(value)
 }
