@@ -20,7 +20,7 @@ ABOUT = {
     'reader_words': 'the row reader',
 }
 # what is asked of a type: `of`, its words; `value`, what words stand for; `zero`, words that are all 0 by default
-STATES = ['FreezeState', 'EconomizerState', 'ReliefBlocks', 'Integrator', 'RowReader']
+STATES = ['FreezeState', 'EconomizerState', 'ReliefHeld', 'RowReader']
 ROWS = ['FreezeRow', 'EconomizerRow', 'ReliefRow']
 GIVEN = ['FreezeCommands', 'EconomizerCommands', 'ReliefCommands', 'FreezeSignals', 'EconomizerSignals', 'ReliefSignals', 'FreezeLeft', 'ReliefLeft']
 FOLDERS = [f'crates/{crate}/{part}' for crate in ABOUT for part in ('src', 'specs', 'proofs')]

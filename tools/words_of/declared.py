@@ -17,7 +17,7 @@ class Type:
         # as src and as definitions name it; the name of what each variant holds
         self.typed = self.spec = name
         self.holds = {variant: snake(variant) for variant, _ in variants or []}
-        self.base = name.removesuffix('State') or name
+        self.base = name.removesuffix('State').removesuffix('Held') or name
         self.words = self.base + 'Words'
         self.file = snake(self.base)
         self.page = self.base

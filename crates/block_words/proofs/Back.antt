@@ -114,6 +114,15 @@ true_delay_back s = λ i. record {
   timer = s.timer;
 }
 
+pub integrator_back : (s : Integrator) → integrator_of (integrator_words s) ≡ s
+unfolding integrator_of integrator_words
+integrator_back s = λ i. record {
+  t_start = s.t_start;
+  prev_t = seen_back s.prev_t i;
+  mu = s.mu;
+  count = s.count;
+}
+
 pub present_timer_back : (s : PresentTimerState) → present_timer_of (present_timer_words s) ≡ s
 unfolding present_timer_of present_timer_words
 present_timer_back s = λ i. record {
@@ -134,13 +143,4 @@ true_delay_on_init_back s = λ i. record {
   delay_time = s.delay_time;
   entry_time = seen_back s.entry_time i;
   previous_u = flag_back s.previous_u i;
-}
-
-pub integrator_back : (s : Integrator) → integrator_of (integrator_words s) ≡ s
-unfolding integrator_of integrator_words
-integrator_back s = λ i. record {
-  t_start = s.t_start;
-  prev_t = seen_back s.prev_t i;
-  mu = s.mu;
-  count = s.count;
 }

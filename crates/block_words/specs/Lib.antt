@@ -11,8 +11,8 @@ pub mod TrueFalseHold
 pub mod PidWithReset
 pub mod Hysteresis
 pub mod TrueDelay
+pub mod Integrator
 pub mod PresentTimer
 pub mod Pre
 pub mod TrueDelayOnInit
-pub mod Integrator
 pub mod TimerOutput

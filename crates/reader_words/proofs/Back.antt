@@ -5,13 +5,12 @@ use Rattle.row_kinds.specs.declared.kind.Kind.{Kind}
 use Rattle.row_kinds.specs.declared.kind.Phase.TheVariants.{First, Rows, Stopped}
 use Rattle.row_kinds.specs.declared.kind.Phase.{Phase}
 use Rattle.row_kinds.specs.declared.types.RowReader.{RowReader}
-use Rattle.block_words.proofs.Back.{integrator_back}
 use Rattle.econ_words.proofs.Back.{economizer_back}
 use Rattle.freeze_words.proofs.Back.{freeze_back}
 use Rattle.reader_words.specs.Kind.{kind_words, kind_of}
 use Rattle.reader_words.specs.Phase.{phase_words, phase_of}
 use Rattle.reader_words.specs.RowReader.{row_reader_words, row_reader_of}
-use Rattle.relief_words.proofs.Back.{relief_blocks_back}
+use Rattle.relief_words.proofs.Back.{relief_back}
 
 pub kind_back : (s : Kind) → kind_of (kind_words s) ≡ s
 unfolding kind_of kind_words
@@ -30,7 +29,6 @@ unfolding row_reader_of row_reader_words
 row_reader_back s = λ i. record {
   phase = phase_back s.phase i;
   freeze = freeze_back s.freeze i;
-  integrator = integrator_back s.integrator i;
-  blocks = relief_blocks_back s.blocks i;
+  relief = relief_back s.relief i;
   econ = economizer_back s.econ i;
 }

@@ -3,14 +3,12 @@ ghost use Rattle.std.specs.Prelude.{◌≡◌};
 ghost use Rattle.reader_words.specs.RowReader.{row_reader_words, row_reader_of};
 
 use crate::phase::PhaseWords;
-use block_words::integrator::IntegratorWords;
 use econ_words::economizer::EconomizerWords;
 use economizer_controller::types::EconomizerState;
 use freeze_protection::types::FreezeState;
 use freeze_words::freeze::FreezeWords;
-use moving_average::lent::Integrator;
-use relief_fan_group::types::ReliefBlocks;
-use relief_words::relief_blocks::ReliefBlocksWords;
+use relief_fan_group::types::ReliefHeld;
+use relief_words::relief::ReliefWords;
 use row_kinds::kind::Phase;
 use row_kinds::types::RowReader;
 
@@ -19,8 +17,7 @@ use row_kinds::types::RowReader;
 pub struct RowReaderWords {
     pub phase: PhaseWords,
     pub freeze: FreezeWords,
-    pub integrator: IntegratorWords,
-    pub blocks: ReliefBlocksWords,
+    pub relief: ReliefWords,
     pub econ: EconomizerWords,
 }
 
@@ -33,8 +30,7 @@ impl From<RowReader> for RowReaderWords {
         RowReaderWords {
             phase: PhaseWords::from(value.phase),
             freeze: FreezeWords::from(value.freeze),
-            integrator: IntegratorWords::from(value.integrator),
-            blocks: ReliefBlocksWords::from(value.blocks),
+            relief: ReliefWords::from(value.relief),
             econ: EconomizerWords::from(value.econ),
         }
     }
@@ -49,8 +45,7 @@ impl From<RowReaderWords> for RowReader {
         RowReader {
             phase: Phase::from(words.phase),
             freeze: FreezeState::from(words.freeze),
-            integrator: Integrator::from(words.integrator),
-            blocks: ReliefBlocks::from(words.blocks),
+            relief: ReliefHeld::from(words.relief),
             econ: EconomizerState::from(words.econ),
         }
     }

@@ -1,10 +1,12 @@
 -- The words of a value stand for the value. Written by tools/words.
 use mathlib.Core.Path.{◌≡◌}
 use Rattle.relief_fan_group.specs.declared.types.ReliefBlocks.{ReliefBlocks}
-use Rattle.block_words.proofs.Back.{latch_back, pre_back, present_timer_back, seen_back, threshold_back, true_delay_on_init_back}
+use Rattle.relief_fan_group.specs.declared.types.ReliefHeld.{ReliefHeld}
+use Rattle.block_words.proofs.Back.{integrator_back, latch_back, pre_back, present_timer_back, seen_back, threshold_back, true_delay_on_init_back}
 use Rattle.block_words.proofs.Elements.{each_back}
 use Rattle.block_words.specs.Threshold.{threshold_words, threshold_of}
 use Rattle.block_words.specs.TrueDelayOnInit.{true_delay_on_init_words, true_delay_on_init_of}
+use Rattle.relief_words.specs.Relief.{relief_words, relief_of}
 use Rattle.relief_words.specs.ReliefBlocks.{relief_blocks_words, relief_blocks_of}
 
 pub relief_blocks_back : (s : ReliefBlocks) → relief_blocks_of (relief_blocks_words s) ≡ s
@@ -32,4 +34,11 @@ relief_blocks_back s = λ i. record {
   tru_del1 = each_back true_delay_on_init_words true_delay_on_init_of true_delay_on_init_back s.tru_del1 i;
   lat1 = latch_back s.lat1 i;
   gre_thr3 = each_back threshold_words threshold_of threshold_back s.gre_thr3 i;
+}
+
+pub relief_back : (s : ReliefHeld) → relief_of (relief_words s) ≡ s
+unfolding relief_of relief_words
+relief_back s = λ i. record {
+  integrator = integrator_back s.integrator i;
+  blocks = relief_blocks_back s.blocks i;
 }

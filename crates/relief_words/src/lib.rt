@@ -3,6 +3,7 @@
 
 pub mod damper_enable;
 pub mod pressure_control;
+pub mod relief;
 pub mod relief_blocks;
 pub mod relief_commands;
 pub mod relief_left;

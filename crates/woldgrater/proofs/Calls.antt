@@ -8,6 +8,7 @@ use Rattle.freeze_protection.specs.Step.{freeze_fresh, freeze_row}
 use Rattle.economizer_controller.specs.Step.{economizer_fresh, economizer_row}
 use Rattle.relief_fan_group.specs.declared.types.ReliefState.{ReliefState}
 use Rattle.relief_fan_group.specs.Step.{relief_fresh, relief_row}
+use Rattle.relief_fan_group.specs.Lent.{held_of, lent_state}
 use Rattle.freeze_words.specs.declared.freeze_row.FreezeRowWords.{FreezeRowWords}
 use Rattle.econ_words.specs.declared.economizer_row.EconomizerRowWords.{EconomizerRowWords}
 use Rattle.relief_words.specs.declared.relief_row.ReliefRowWords.{ReliefRowWords}
@@ -16,13 +17,12 @@ use Rattle.freeze_words.specs.FreezeRow.{freeze_row_of}
 use Rattle.econ_words.specs.Economizer.{economizer_words, economizer_of}
 use Rattle.econ_words.specs.EconomizerRow.{economizer_row_of}
 use Rattle.relief_words.specs.ReliefRow.{relief_row_of}
-use Rattle.block_words.proofs.Back.{integrator_back}
 use Rattle.freeze_words.proofs.Back.{freeze_back}
 use Rattle.econ_words.proofs.Back.{economizer_back}
-use Rattle.relief_words.proofs.Back.{relief_blocks_back}
+use Rattle.relief_words.proofs.Back as held
 use Rattle.woldgrater.specs.Freeze.{freeze_answered}
 use Rattle.woldgrater.specs.Economizer.{economizer_answered}
-use Rattle.woldgrater.specs.Relief.{integrator_in, relief_words, relief_answered, relief_memory, relief_in}
+use Rattle.woldgrater.specs.Relief.{relief_answered, relief_memory, relief_in}
 
 -- what a caller holds stands for the state that it was made of; then a run on what is held answers as the run on states
 module _ {S W R A : Type 0} (held : S → W) (state : W → S) (back : (s : S) → state (held s) ≡ s) (answer : S → R → A) (next : S → R → S) where
@@ -58,13 +58,7 @@ economizer_by_calls rows =
     (λ s x. (economizer_row s (economizer_row_of x)).state) economizer_fresh rows
 
 pub relief_back : (s : ReliefState) → relief_in (relief_memory s) ≡ s
-unfolding relief_words
-relief_back s = λ i. record {
-  window =
-      let w = integrator_back (integrator_in s.window) i in
-      record { t_start = w.t_start; prev_t = w.prev_t; mu = w.mu; times = s.window.times; integrals = s.window.integrals; count = w.count };
-  blocks = relief_blocks_back s.blocks i;
-}
+relief_back s = λ i. lent_state (held.relief_back (held_of s) i) s.window.times s.window.integrals
 
 pub relief_by_calls : (rows : List ReliefRowWords)
     → run (λ m x. relief_answered (relief_row (relief_in m) (relief_row_of x)).answer) (λ m x. relief_memory (relief_row (relief_in m) (relief_row_of x)).state) (relief_memory relief_fresh) rows

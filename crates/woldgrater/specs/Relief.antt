@@ -1,27 +1,16 @@
 -- What a caller of the relief fan group gets, a call a row: its words for the answers of `relief_row`.
 use Rattle.std.specs.Prelude.{List, Float}
-use Rattle.moving_average.specs.declared.lent.Integrator.{Integrator}
-use Rattle.moving_average.specs.declared.state.MovingAverageState.{MovingAverageState}
 use Rattle.relief_fan_group.specs.declared.types.ReliefState.{ReliefState}
 use Rattle.relief_fan_group.specs.Step.{ReliefAnswer}
 use Rattle.relief_fan_group.specs.Step.{ReliefStep}
-use Rattle.relief_fan_group.specs.Lent.{lent_state}
-use Rattle.block_words.specs.Integrator.{integrator_words, integrator_of}
-use Rattle.relief_words.specs.ReliefBlocks.{relief_blocks_words, relief_blocks_of}
+use Rattle.relief_fan_group.specs.Lent.{held_of, lent_state}
+use Rattle.relief_words.specs.Relief.{relief_words, relief_of}
 use Rattle.relief_words.specs.ReliefCommands.{relief_commands_words, relief_commands_zero}
 use Rattle.relief_words.specs.declared.relief_commands.ReliefCommandsWords.{ReliefCommandsWords}
 use Rattle.woldgrater.specs.declared.answered.Answered.{Answered}
-use Rattle.woldgrater.specs.declared.relief.ReliefWords.{ReliefWords}
+use Rattle.relief_words.specs.declared.relief.ReliefWords.{ReliefWords}
 use Rattle.woldgrater.specs.declared.relief.ReliefGiven.{ReliefGiven}
 use Rattle.woldgrater.specs.Answered.{answered}
-
--- the window without its arrays
-abbrev pub integrator_in : MovingAverageState → Integrator
-integrator_in s = record { t_start = s.t_start; prev_t = s.prev_t; mu = s.mu; count = s.count }
-
--- the words of a state
-unfoldable pub relief_words : ReliefState → ReliefWords
-relief_words s = record { integrator = integrator_words (integrator_in s.window); blocks = relief_blocks_words s.blocks }
 
 -- what a caller holds: the words, and the arrays of the window
 pub record ReliefMemory : Type 0 where
@@ -34,10 +23,10 @@ memory words times integrals = record { words = words; times = times; integrals 
 
 -- of a state, and the state that it stands for
 abbrev pub relief_memory : ReliefState → ReliefMemory
-relief_memory s = memory (relief_words s) s.window.times s.window.integrals
+relief_memory s = memory (relief_words (held_of s)) s.window.times s.window.integrals
 
 abbrev pub relief_in : ReliefMemory → ReliefState
-relief_in m = lent_state (integrator_of m.words.integrator) (relief_blocks_of m.words.blocks) m.times m.integrals
+relief_in m = lent_state (relief_of m.words) m.times m.integrals
 
 -- status and commands of an answer
 abbrev pub relief_answered : ReliefAnswer → Answered ReliefCommandsWords

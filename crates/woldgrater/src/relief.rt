@@ -5,23 +5,11 @@ ghost use Rattle.relief_words.specs.ReliefRow.{relief_row_of};
 ghost use Rattle.woldgrater.specs.Relief.{memory, relief_memory, relief_in, relief_called, relief_given};
 
 use crate::answered::Answered;
-use block_words::integrator::IntegratorWords;
-use moving_average::lent::Integrator;
-use relief_fan_group::lent::relief_row_lent;
-use relief_fan_group::step::relief_blocks;
-use relief_fan_group::types::{ReliefBlocks, ReliefRow};
-use relief_words::relief_blocks::ReliefBlocksWords;
+use relief_fan_group::lent::{held_fresh, relief_row_lent};
+use relief_fan_group::types::{ReliefHeld, ReliefRow};
+use relief_words::relief::ReliefWords;
 use relief_words::relief_commands::ReliefCommandsWords;
 use relief_words::relief_row::ReliefRowWords;
-use row_kinds::types::no_points;
-
-// The state without the arrays of its window.
-#[repr(C)]
-#[derive(Clone, Copy)]
-pub struct ReliefWords {
-    pub integrator: IntegratorWords,
-    pub blocks: ReliefBlocksWords,
-}
 
 // The state after a row, its status, and the commands of an accepted one: those of a refused one are 0 and mean nothing.
 #[repr(C)]
@@ -39,10 +27,7 @@ pub fn woldgrater_relief_start(times: &mut [f64; 512], integrals: &mut [f64; 512
 {
     *times = [0.0; 512];
     *integrals = [0.0; 512];
-    ReliefWords {
-        integrator: IntegratorWords::from(no_points()),
-        blocks: ReliefBlocksWords::from(relief_blocks()),
-    }
+    ReliefWords::from(held_fresh())
 }
 
 // One row: its commands and the next state, or its refusal and the old state.
@@ -55,16 +40,11 @@ pub fn woldgrater_relief_row(
     ensures { relief_called result times.new integrals.new
         ≡ relief_given (relief_row (relief_in (memory state times.old integrals.old)) (relief_row_of row)) }
 {
-    let integrator = Integrator::from(state.integrator);
-    let blocks = ReliefBlocks::from(state.blocks);
-    let sampled = ReliefRow::from(row);
-    let step = relief_row_lent(integrator, blocks, times, integrals, sampled);
+    let held = ReliefHeld::from(state);
+    let step = relief_row_lent(held, times, integrals, ReliefRow::from(row));
     let answered = Answered::from(step.answer);
     ReliefGiven {
-        state: ReliefWords {
-            integrator: IntegratorWords::from(step.integrator),
-            blocks: ReliefBlocksWords::from(step.blocks),
-        },
+        state: ReliefWords::from(step.state),
         status: answered.status,
         commands: answered.commands,
     }

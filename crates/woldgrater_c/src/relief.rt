@@ -5,8 +5,9 @@ ghost use Rattle.relief_fan_group.specs.Step.{relief_fresh, relief_row};
 ghost use Rattle.relief_words.specs.ReliefRow.{relief_row_of};
 ghost use Rattle.woldgrater.specs.Relief.{memory, relief_memory, relief_in, relief_called, relief_given};
 
+use relief_words::relief::ReliefWords;
 use relief_words::relief_row::ReliefRowWords;
-use woldgrater::relief::{ReliefGiven, ReliefWords};
+use woldgrater::relief::ReliefGiven;
 
 // The state of a start, before any row: the arrays are set to 0.
 #[unsafe(no_mangle)]

@@ -10,18 +10,17 @@ ghost use Rattle.woldgrater_service.specs.Line.{LineLeft};
 ghost use Rattle.woldgrater_service.specs.Shown.{relief_shown, alarm_given};
 
 use crate::line::LineGiven;
-use moving_average::lent::Integrator;
 use relief_fan_group::left::relief_left;
 use relief_fan_group::remembered::relief_alarm;
 use relief_fan_group::signals::relief_signals;
-use relief_fan_group::types::{ReliefBlocks, ReliefRow};
+use relief_fan_group::types::{ReliefBlocks, ReliefHeld, ReliefRow};
 use relief_fan_group::verdict::relief_verdict;
 use relief_lines::relief::ReliefLines;
+use relief_words::relief::ReliefWords;
 use relief_words::relief_left::ReliefLeftWords;
 use relief_words::relief_row::ReliefRowWords;
 use relief_words::relief_signals::ReliefSignalsWords;
 use row_writer::write_row;
-use woldgrater::relief::ReliefWords;
 
 // The status of a row, and what the commands of an accepted one are worked from.
 // Beside it the seconds left on its timers.
@@ -45,8 +44,7 @@ pub fn woldgrater_relief_signals<'a>(
     ensures { result ≡ relief_shown (relief_in (memory state times.now integrals.now))
         (relief_row_of row) }
 {
-    let integrator = Integrator::from(state.integrator);
-    let blocks = ReliefBlocks::from(state.blocks);
+    let ReliefHeld { integrator, blocks } = ReliefHeld::from(state);
     let sampled = ReliefRow::from(row);
     let full = integrator.is_full(times, sampled.time);
     match relief_verdict(blocks, sampled, full) {

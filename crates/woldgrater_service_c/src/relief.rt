@@ -10,8 +10,8 @@ ghost use Rattle.woldgrater.specs.Relief.{memory, relief_in};
 ghost use Rattle.woldgrater_service.specs.Line.{LineLeft};
 ghost use Rattle.woldgrater_service.specs.Shown.{relief_shown, alarm_given};
 
+use relief_words::relief::ReliefWords;
 use relief_words::relief_row::ReliefRowWords;
-use woldgrater::relief::ReliefWords;
 use woldgrater_service::line::LineGiven;
 use woldgrater_service::relief::{AlarmGiven, ReliefShown};
 

@@ -1,5 +1,5 @@
 -- `woldgrater_relief_row`: the row on what the words stand for, and its step as words.
-use mathlib.Core.Path.{◌∙◌}
+use Rattle.std.proofs.Common.{◌∙◌}
 use Rattle.relief_fan_group.specs.Lent.{lent_state}
 use Rattle.relief_fan_group.specs.Step.{relief_row}
 use Rattle.relief_words.specs.ReliefCommands.{relief_commands_words, relief_commands_zero}
@@ -10,6 +10,5 @@ use Rattle.woldgrater.proofs.relief.woldgrater_relief_row.Goals as goal
 pub returns : goal.returns
 returns c =
     relief_called_lem _ _ _ _
-    (c.relief_row_lent-step.ensures
-    ∙ λ i. relief_row (lent_state (c.from-integrator.ensures i) (c.from-blocks.ensures i) c.args.times.now c.args.integrals.now) (c.from-sampled.ensures i))
-    _ c.from.ensures c.from-2.ensures (answered_is relief_commands_words relief_commands_zero _ _ c.from-answered.ensures)
+    (c.relief_row_lent-step.ensures ∙ λ i. relief_row (lent_state (c.from-held.ensures i) c.args.times.now c.args.integrals.now) (c.from.ensures i))
+    _ c.from-2.ensures (answered_is relief_commands_words relief_commands_zero _ _ c.from-answered.ensures)
