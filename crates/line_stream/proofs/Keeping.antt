@@ -5,7 +5,7 @@ use mathlib.Core.List.{List, ◌++◌, append_assoc}
 use native.Mathlib.Omega.{arith}
 use lib.ListN.{length, take}
 use lib.Seq.{take_all, take_at, take-append-add, length_paste_head, length-take-le}
-use Rattle.line_stream.specs.Lines.{cut}
+use Rattle.line_stream.specs.Lines.{cut, Kept}
 use Rattle.line_stream.proofs.Cutting.{at_most_or_above}
 
 take_min : (a : ℕ) (l : List ℕ) → take (min a (length l)) l ≡ take a l
@@ -28,3 +28,7 @@ kept_is line len more n copied rest l h e c =
     ∙ ap (λ (x : List ℕ). take len line ++ x) (take_min (256 - len) more)
     ∙ sym (take-append-add (take len line) more (256 - len))
     ∙ ap (λ (k : ℕ). take k (take len line ++ more)) f
+
+pub kept : (line : List ℕ) (len : ℕ) (more : List ℕ) (n : ℕ) (copied rest : List ℕ) → length line ≡ 256 → len ≤ 256 → n ≡ min (length more) (256 - len) → copied ≡ take n more
+    → Kept line len more (take len line ++ (copied ++ rest)) (len + n)
+kept line len more n copied rest l h e c = record { bytes = kept_is line len more n copied rest l h (omega arith) c; fits = omega arith }

@@ -5,7 +5,7 @@ use mathlib.Core.List.{List, [], ◌∷◌, ◌++◌, append_assoc, append-nil}
 use mathlib.Core.Bool.{Bool, true, false, cond}
 use native.Mathlib.Omega.{arith}
 use lib.ListN.{length, get_or, take, drop, length-take, length-drop, take-append-drop}
-use lib.Seq.{drop-drop}
+use lib.Seq.{take_all, drop-drop}
 use lib.Dec.{ltb, eqb}
 use Rattle.std.specs.Prelude.{Option, Some, None}
 use Rattle.std.specs.Option.{unwrap_or}
@@ -40,6 +40,13 @@ pub newline_found : (l : List ℕ) (found : Option ℕ) → IsFirstByte (is_byte
 newline_found l None nowhere = sym (newline_after l (length l) (omega arith) (λ k h e. nowhere k (omega arith) h (eq-eqb _ _ e)) (λ h. absurd (omega arith)))
 newline_found l (Some n) (first, here) =
     sym (newline_after l n (omega (arith, first.high)) (λ k h e. first.before k (omega arith) h (eq-eqb _ _ e)) (λ _. eqb-true _ _ here))
+
+-- and what one finds from a place on
+pub newline_from : (l : List ℕ) (from : ℕ) → from ≤ length l → (found : Option ℕ) → IsFirstByte (is_byte 10) (take (length l - from) (drop from l)) found
+    → from + unwrap_or found (length (take (length l - from) (drop from l))) ≡ from + before_newline (drop from l)
+newline_from l from h found is =
+    let all : take (length l - from) (drop from l) ≡ drop from l = take_all (length l - from) (drop from l) (omega (arith, length-drop from l)) in
+    ap (λ (n : ℕ). from + n) (newline_found _ found is ∙ ap before_newline all)
 
 pub newline_within : (l : List ℕ) → before_newline l ≤ length l
 unfolding before_newline

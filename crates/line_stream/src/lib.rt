@@ -7,6 +7,7 @@ ghost use Rattle.line_stream.specs.Lines.{before_newline, Kept};
 use memchr::memchr;
 
 // Helper. The place of the first newline in a chunk from `from` on, or the chunk's end where there is none.
+#[tactic(auto, using(crate::proofs::Turns::newline_from))]
 pub fn line_end(chunk: &[u8], from: usize) -> usize
     requires { from ≤ length chunk.now }
     ensures { result ≡ from + before_newline (drop from chunk.now) }
@@ -16,8 +17,9 @@ pub fn line_end(chunk: &[u8], from: usize) -> usize
 }
 
 // Helper. Keeps more bytes of a line after the `len` that are kept of it, up to 256 in all, and gives their number.
-pub fn keep(line: &mut [u8], len: usize, more: &[u8]) -> usize
-    requires { (length line.old ≡ 256) × (len ≤ 256) }
+#[tactic(auto, using(crate::proofs::Keeping::kept))]
+pub fn keep(line: &mut [u8; 256], len: usize, more: &[u8]) -> usize
+    requires { len ≤ 256 }
     ensures { Kept line.old len more.now line.new result }
 {
     let n = more.len().min(256 - len);

@@ -154,9 +154,8 @@ pub record Window (times integrals : List Float) : Type 0 where
   pub times_long : length times ≡ 512
   pub integrals_long : length integrals ≡ 512
 
--- what a chunk is fed with: a buffer for 256 bytes of a line, those that it holds, and 22 bytes of output for each byte that may end a line
-pub record Lent (chunk line : List ℕ) (had : ℕ) (out : List ℕ) : Type 0 where
-  pub line_long : length line ≡ 256
+-- what a chunk is fed with: at most 256 bytes kept of a line, and 22 bytes of output for each byte that may end a line
+pub record Lent (chunk : List ℕ) (had : ℕ) (out : List ℕ) : Type 0 where
   pub had_fits : had ≤ 256
   pub room : 22 * (256 + length chunk) ≤ length out
 
@@ -175,8 +174,7 @@ pub record PassingRows (kind : Kind) (reader : RowReader) (text out : List ℕ) 
   pub room : at + 22 * length text ≤ length out
 
 -- what the line that ends the bytes kept of it is answered with
-pub record Keeping (line : List ℕ) (len : ℕ) (out : List ℕ) : Type 0 where
-  pub line_long : length line ≡ 256
+pub record Keeping (len : ℕ) (out : List ℕ) : Type 0 where
   pub len_fits : len ≤ 256
   pub room : 22 * (len + 1) ≤ length out
 

@@ -90,14 +90,14 @@ fn pass(
 // The line that ends the bytes kept of it, from its buffer: the place after its answer. At most 255 bytes of it are taken, so that a byte is left in the buffer
 // where its newline would be. No kind has a line as long.
 fn kept_line(
-    line: &[u8],
+    line: &[u8; 256],
     len: usize,
     out: &mut [u8],
     times: &mut [f64; 512],
     integrals: &mut [f64; 512],
     reader: &mut RowReader,
 ) -> usize
-    requires { Keeping line.now len out.old }
+    requires { Keeping len out.old }
     ensures { LineAnswered (carried reader.old times.old integrals.old)
         (take len line.now) out.old
         (carried reader.new times.new integrals.new) out.new result }
@@ -112,14 +112,14 @@ fn kept_line(
 // Helper. Feeds a chunk to the reader, after the `had` bytes kept of a line: answers the lines that end in it, and keeps the part of a line that is left.
 pub fn feed(
     chunk: &[u8],
-    line: &mut [u8],
+    line: &mut [u8; 256],
     out: &mut [u8],
     times: &mut [f64; 512],
     integrals: &mut [f64; 512],
     reader: &mut RowReader,
     had: usize,
 ) -> Fed
-    requires { Lent chunk.now line.old had out.old }
+    requires { Lent chunk.now had out.old }
     ensures { FedTo (carried reader.old times.old integrals.old)
         (take had line.old) chunk.now out.old
         (carried reader.new times.new integrals.new) line.new result.len
@@ -146,26 +146,24 @@ pub fn feed(
 }
 
 // Bytes after the last newline are one refused line.
-fn last_line(line: &[u8], len: usize, out: &mut [u8]) -> usize
-    requires { (len ≤ length line.now) × (22 ≤ length out.old) }
-    ensures { Wrote out.old 0 (last_line (take len line.now)) result out.new result
-        × (result ≤ 22) }
+fn last_line(part: &[u8], out: &mut [u8]) -> usize
+    requires { 22 ≤ length out.old }
+    ensures { Wrote out.old 0 (last_line part.now) result out.new result × (result ≤ 22) }
 {
-    if len == 0 {
+    if part.is_empty() {
         return 0;
     }
     write_status_line(out, 0, 5)
 }
 
-// Helper. The end of the input: what is said of the `len` bytes kept of a line, at the start of the output.
-pub fn finish(reader: &RowReader, line: &[u8], len: usize, out: &mut [u8]) -> usize
-    requires { (len ≤ length line.now) × (22 ≤ length out.old) }
-    ensures { Finished reader.now (take len line.now) out.old out.new result ×
-        (result ≤ 22) }
+// Helper. The end of the input: what is said of the bytes kept of a line, at the start of the output.
+pub fn finish(reader: &RowReader, part: &[u8], out: &mut [u8]) -> usize
+    requires { 22 ≤ length out.old }
+    ensures { Finished reader.now part.now out.old out.new result × (result ≤ 22) }
 {
     match reader.phase {
         Phase::First => write_status_line(out, 0, 6),
-        Phase::Rows(_) => last_line(line, len, out),
+        Phase::Rows(_) => last_line(part, out),
         Phase::Stopped => 0,
     }
 }

@@ -2,14 +2,12 @@
 // before more is read, so it serves a pipe. Where reading or writing fails it says so on standard error, and stops; its exit status is 0 then too.
 #![tactic(auto)]
 
-ghost use Rattle.std.specs.Prelude.{◌≤◌, length};
 ghost use Rattle.row_kinds.specs.Rows.{Lent};
 ghost use Rattle.rows.specs.Turns.{TurnLeft};
 
 use row_kinds::kind::Phase;
 use row_kinds::types::{RowReader, fresh_at};
 use row_reader::feed::{feed, finish};
-use std::io;
 use std::io::Read;
 
 // The bytes kept of a line after a turn, whether all answers were written, and whether there is a next turn. They are two flags, and no Result, since what is
@@ -35,57 +33,41 @@ fn put(rt: &(impl Print + Eprint), answers: &[u8]) -> bool {
     written
 }
 
-// The input has ended.
-fn end(rt: &(impl Print + Eprint), reader: &RowReader, line: &[u8], len: usize, out: &mut [u8])
-    requires { (len ≤ length line.now) × (22 ≤ length out.old) }
-{
-    let said = finish(reader, line, len, out);
-    put(rt, &out[..said]);
-}
-
-// A read gave no bytes: the input has ended, or it cannot be read further and how it ends is not known.
-fn no_more(
-    rt: &(impl Print + Eprint),
-    got: io::Result<usize>,
-    reader: &RowReader,
-    line: &[u8],
-    len: usize,
-    out: &mut [u8],
-)
-    requires { (len ≤ length line.now) × (22 ≤ length out.old) }
-{
-    if got.is_err() {
-        say(rt, "rows: the input could not be read");
-    } else {
-        end(rt, reader, line, len, out);
-    }
-}
+// No next turn.
+const NO_MORE: Turned = Turned {
+    len: 0,
+    written: true,
+    more: false,
+};
 
 // Reads once, and answers the lines that end in what came. There is no next turn where no more comes, the answers cannot be written, or the first
 // line names no kind.
 fn turn(
     rt: &(impl Input + Print + Eprint),
     buffer: &mut [u8],
-    line: &mut [u8],
+    line: &mut [u8; 256],
     out: &mut [u8],
     times: &mut [f64; 512],
     integrals: &mut [f64; 512],
     reader: &mut RowReader,
     had: usize,
 ) -> Turned
-    requires { Lent buffer.old line.old had out.old }
+    requires { Lent buffer.old had out.old }
     ensures { TurnLeft reader.new result.len result.written result.more times.new integrals.new }
 {
-    let got = rt.reader().read(buffer);
-    let n = got.unwrap_or(0);
-    if n == 0 {
-        no_more(rt, got, reader, line, had, out);
-        return Turned {
-            len: had,
-            written: true,
-            more: false,
-        };
-    }
+    let n = match rt.reader().read(buffer) {
+        Ok(0) => {
+            let said = finish(reader, &line[..had], out);
+            put(rt, &out[..said]);
+            return NO_MORE;
+        }
+        Ok(n) => n,
+        // How the input ends is not known.
+        Err(_) => {
+            say(rt, "rows: the input could not be read");
+            return NO_MORE;
+        }
+    };
     let fed = feed(&buffer[..n], line, out, times, integrals, reader, had);
     let written = put(rt, &out[..fed.sent]);
     Turned {
@@ -99,12 +81,12 @@ fn turn(
 fn play(
     rt: &(impl Input + Print + Eprint),
     buffer: &mut [u8],
-    line: &mut [u8],
+    line: &mut [u8; 256],
     out: &mut [u8],
     times: &mut [f64; 512],
     integrals: &mut [f64; 512],
 )
-    requires { Lent buffer.old line.old 0 out.old }
+    requires { Lent buffer.old 0 out.old }
 {
     let mut reader = fresh_at(Phase::First);
     let mut len: usize = 0;

@@ -38,5 +38,5 @@ pub fn finish_lent(out: &mut [u8], line: &[u8; 256], reader: &RowReader, kept: u
     requires { status_length ≤ length out.old }
     ensures { Finished reader.now (take kept line.now) out.old out.new result }
 {
-    finish(reader, line, kept_of(kept), out)
+    finish(reader, &line[..kept_of(kept)], out)
 }

@@ -26,7 +26,7 @@ fn play(rows: &[u8], out: &mut [u8]) -> usize
         &mut reader,
         0,
     );
-    let said = finish(&reader, &line, fed.len, &mut out[fed.sent..]);
+    let said = finish(&reader, &line[..fed.len], &mut out[fed.sent..]);
     fed.sent + said
 }
 
