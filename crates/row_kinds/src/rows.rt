@@ -13,6 +13,7 @@ use columns::line::{write_line, write_status_line};
 use econ_lines::econ::EconLines;
 use freeze_lines::freeze::FreezeLines;
 use line_stream::line_end;
+use refusals::Refusal;
 use relief_lines::relief::ReliefLines;
 use row_writer::lines::RowLines;
 
@@ -38,7 +39,7 @@ fn answer_line<K: RowLines<N, M>, const N: usize, const M: usize>(
     ensures window { WindowLeft K.has_window times.old integrals.old times.new integrals.new }
 {
     let Some(words) = read_columns(line, &K::ROW) else {
-        return write_status_line(out, at, 5);
+        return write_status_line(out, at, Refusal::BadlyFormed.number());
     };
     match K::step(state, times, integrals, K::row_of(&words)) {
         Ok(commands) => write_line(out, at, &K::ANSWER, &K::command_words(commands)),

@@ -8,6 +8,7 @@ use columns::line::write_status_line;
 use economizer_controller::step::economizer_fresh;
 use freeze_protection::step::freeze_fresh;
 use line_stream::{keep, line_end};
+use refusals::Refusal;
 use relief_fan_group::lent::held_fresh;
 use row_kinds::kind::{Kind, Phase, phase_after};
 use row_kinds::rows::{Passed, pass_rows};
@@ -31,12 +32,13 @@ fn start(kind: Kind, times: &mut [f64; 512], integrals: &mut [f64; 512], reader:
 }
 
 // A first line that names no kind: 6, and the reader reads no more.
+#[tactic(auto, unfolding(refusals::specs::Refusals::refusal_number))]
 fn stop(out: &mut [u8], reader: &mut RowReader) -> usize
     requires { 22 ≤ length out.old }
     ensures { Ended reader.old out.old reader.new out.new result }
 {
     reader.phase = Phase::Stopped;
-    write_status_line(out, 0, 6)
+    write_status_line(out, 0, Refusal::NoKind.number())
 }
 
 // The first line, without its newline: rows of its kind from a fresh state, or 6 where it names none. It is kept a call of its own, since `feed` would hold its
@@ -146,6 +148,7 @@ pub fn feed(
 }
 
 // Bytes after the last newline are one refused line.
+#[tactic(auto, unfolding(refusals::specs::Refusals::refusal_number))]
 fn last_line(part: &[u8], out: &mut [u8]) -> usize
     requires { 22 ≤ length out.old }
     ensures { Wrote out.old 0 (last_line part.now) result out.new result × (result ≤ 22) }
@@ -153,16 +156,17 @@ fn last_line(part: &[u8], out: &mut [u8]) -> usize
     if part.is_empty() {
         return 0;
     }
-    write_status_line(out, 0, 5)
+    write_status_line(out, 0, Refusal::BadlyFormed.number())
 }
 
 // Helper. The end of the input: what is said of the bytes kept of a line, at the start of the output.
+#[tactic(auto, unfolding(refusals::specs::Refusals::refusal_number))]
 pub fn finish(reader: &RowReader, part: &[u8], out: &mut [u8]) -> usize
     requires { 22 ≤ length out.old }
     ensures { Finished reader.now part.now out.old out.new result × (result ≤ 22) }
 {
     match reader.phase {
-        Phase::First => write_status_line(out, 0, 6),
+        Phase::First => write_status_line(out, 0, Refusal::NoKind.number()),
         Phase::Rows(_) => last_line(part, out),
         Phase::Stopped => 0,
     }

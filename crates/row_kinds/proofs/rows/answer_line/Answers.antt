@@ -3,19 +3,22 @@ use Rattle.std.proofs.Common.{◌≡◌, ◌+◌, ◌*◌, ◌<◌, ℕ, List, [
 use Rattle.std.specs.Prelude.{Some}
 use Rattle.columns.specs.declared.forms.Form.{Form}
 use Rattle.columns.specs.Forms.{read_line}
-use Rattle.columns.specs.Line.{words_line}
+use Rattle.columns.specs.Line.{status_line, words_line}
 use Rattle.columns.proofs.Lines.{status_words_line}
 use Rattle.columns.proofs.Tables.{read_length}
+use Rattle.columns.proofs.Writing.{wrote_as}
+use Rattle.refusals.specs.Refusals.{refusal_number}
 use Rattle.line_stream.specs.RowKind.{answer_words}
 use Rattle.line_stream.proofs.RowKinds.{bad_answered, row_answered}
 use Rattle.row_kinds.proofs.RowLines.{stepped_as}
 use Rattle.row_kinds.proofs.rows.answer_line.Goals as goal
 
 pub returns-in_default-clause-answered : goal.returns-in_default-clause-answered
+unfolding refusal_number
 returns-in_default-clause-answered g c =
     bad_answered g.K.RowLines.kind _ c.args.line.now _ _ _ _
     (sym c.in_default.is ∙ c.read_columns.ensures ∙ ap (λ (f : List Form). read_line f c.args.line.now) (c.ROW.ensures ∙ sym g.met.K.RowLines.row_forms))
-    c.write_status_line.ensures
+    (wrote_as _ _ _ (ap status_line c.number.ensures) c.write_status_line.ensures)
 
 pub write_line-requires : goal.write_line-requires
 write_line-requires g c =
@@ -47,7 +50,7 @@ returns-in-Err-clause-answered g c =
     row_answered k _ c.args.line.now _ _ _ _ c.in-Some.words
     (sym c.in-Some.is ∙ c.read_columns.ensures ∙ ap (λ (f : List Form). read_line f c.args.line.now) (c.ROW.ensures ∙ sym l.row_forms))
     _ c.step.result (stepped_as c.step.ensures.stepped c.row_of.ensures) _ _
-    (sym (status_words_line l.sized.commands c.number.result)
+    (sym (status_words_line l.sized.commands c.number-in-Err.result)
     ∙ ap₂ (λ (f : List Form) (w : List ℕ). words_line f w) (sym l.sized.status)
-    (ap (λ (n : ℕ). n ∷ []) c.number.ensures ∙ ap (answer_words k) (sym c.in-Err.is)))
+    (ap (λ (n : ℕ). n ∷ []) c.number-in-Err.ensures ∙ ap (answer_words k) (sym c.in-Err.is)))
     c.write_status_line-in-Err.ensures
