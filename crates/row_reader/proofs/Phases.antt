@@ -3,6 +3,7 @@ use Prim.Native.Nat.{ℕ, ◌+◌, ◌-◌, ◌*◌, ◌≤◌, min}
 use mathlib.Core.Path.{◌≡◌, refl, sym, ap, ◌∙◌}
 use mathlib.Core.List.{List, [], ◌++◌, append-nil}
 use mathlib.Core.Bool.{true, false, true≢false}
+use mathlib.Core.Logic.{◌⊎◌, inl, inr}
 use native.Mathlib.Omega.{arith}
 use lib.Ieee.{Float}
 use lib.Dec.{ltb}
@@ -105,7 +106,14 @@ named_fresh kind.Freeze c = refl
 named_fresh kind.Relief c = refl
 named_fresh kind.Econ c = refl
 
-module _ (before : Carried) (first : phase_first before.reader.phase ≡ true) (w : Window before.times before.integrals) (line : List ℕ) (p : Phase) (is : p ≡ phase_after line) where
+module _ (reader : RowReader) (times integrals : List Float) (times_long : length times ≡ 512) (integrals_long : length integrals ≡ 512)
+    (first : phase_first reader.phase ≡ true) (line : List ℕ) (p : Phase) (is : p ≡ phase_after line) where
+  abbrev before : Carried
+  before = carried reader times integrals
+
+  w : Window times integrals
+  w = record { times_long = times_long; integrals_long = integrals_long }
+
   line_is : (p' : Phase) → p ≡ p' → rows_line (rows_in before) line ≡ first_line (start_of p')
   unfolding reader_line
   line_is p' e = ap (λ (q : Rows). rows_line q line) (at_phase_lem before phase.First (is_first _ first)) ∙ ap (λ (x : Phase). first_line (start_of x)) (sym is ∙ e)
@@ -127,12 +135,16 @@ module _ (before : Carried) (first : phase_first before.reader.phase ≡ true) (
       }
 
   -- none is
-  pub none_begins : (p' : Phase) → p ≡ p' → start_of p' ≡ start_of phase.Stopped → (out : List ℕ) (next : RowReader) (after : List ℕ) (at : ℕ) → Ended before.reader out next after at
-      → LineAnswered before line out (carried next before.times before.integrals) after at
+  none_at : (p ≡ phase.First) ⊎ (p ≡ phase.Stopped) → rows_line (rows_in before) line ≡ first_line (start_of phase.Stopped)
+  none_at (inl e) = line_is phase.First e
+  none_at (inr e) = line_is phase.Stopped e
+
+  pub none_begins : (p ≡ phase.First) ⊎ (p ≡ phase.Stopped) → (out : List ℕ) (next : RowReader) (after : List ℕ) (at : ℕ) → Ended reader out next after at
+      → LineAnswered before line out (carried next times integrals) after at
   unfolding phase_first
-  none_begins p' e n out next after at s =
-      let a = line_is p' e ∙ ap first_line n in
-      let m = s.stopped before.times before.integrals in
+  none_begins e out next after at s =
+      let a = none_at e in
+      let m = s.stopped times integrals in
       record {
         named = ap (λ (c : Carried). phase_first c.reader.phase) m;
         window = w;

@@ -15,6 +15,7 @@ use row_kinds::rows::{Passed, pass_rows};
 use row_kinds::types::{Fed, RowReader};
 
 // Rows of a kind from a fresh state. The states of the other kinds stay.
+#[tactic(auto, unfolding(relief_fan_group::specs::Step::relief_fresh, moving_average::specs::State::moving_average_new))]
 fn start(kind: Kind, times: &mut [f64; 512], integrals: &mut [f64; 512], reader: &mut RowReader)
     ensures { carried reader.new times.new integrals.new
         ≡ with_sequence (fresh_of kind) (carried reader.old times.old integrals.old) }
