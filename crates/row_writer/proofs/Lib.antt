@@ -1,4 +1,3 @@
--- The laws that the proofs cite, and the two theorems over any kind of rows.
-pub mod Texts
+-- The theorems over any kind of rows.
 pub mod RowsBack
 pub mod Files

@@ -20,6 +20,7 @@ fn has_room(len: usize, at: usize, n: usize) -> bool
 // Writes the line of a row, with its newline, from the place `at` on, and gives the place after it. A number that is not finite is refused (1), or else a line
 // that does not fit (10), and no byte changes then. What is written reads back as the row. The time is not looked at: what the sequence would refuse for it is
 // written too.
+#[tactic(auto, using(columns::proofs::Lines::length_words_line), unfolding(crate::specs::Writing::write_text))]
 pub fn write_row<K: RowLines<N, M>, const N: usize, const M: usize>(
     out: &mut [u8],
     at: usize,
