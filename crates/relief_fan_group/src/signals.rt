@@ -8,10 +8,10 @@ use crate::types::{
 };
 use reals::limits::limit;
 use reals::order::smallest;
-use reals::switch::bool_to_real;
+use reals::switch::{bool_to_real, switch};
 use relief_fans::blocks::{delay_outputs, threshold_outputs};
 use relief_fans::flags::{all_of, and_each, any_of, equal_each, not_each, or_each, xor_each};
-use relief_fans::orders::{distance, pro1, pro2, swi, swi3};
+use relief_fans::orders::{distance, pro1, pro2, swi};
 use relief_fans::table::{ena_rel, gai};
 
 // The pressure loop: the mean above the setpoint, normalized and limited to 0 .. 1.
@@ -64,7 +64,7 @@ pub fn damper_enable(blocks: ReliefBlocks, row: ReliefRow, control: PressureCont
 }
 
 // The next fan to start, whether the started fans have proven, the up pulse and its latch.
-#[tactic(auto, unfolding(crate::specs::Signals::stage_up))]
+#[tactic(auto, using(relief_fans::proofs::Switches::switch_is_swi3), unfolding(crate::specs::Signals::stage_up))]
 pub fn stage_up(blocks: ReliefBlocks, row: ReliefRow, control: PressureControl) -> StageUp
     ensures { result ≡ stage_up blocks row control }
 {
@@ -72,7 +72,7 @@ pub fn stage_up(blocks: ReliefBlocks, row: ReliefRow, control: PressureControl) 
     let all_fans_off = all_of(not_each(row.proof));
     let pro1 = pro1(control.gai, control.ena_rel, row.proof);
     let swi = swi(threshold_outputs(blocks.les_thr1, pro1), pro1);
-    let next_stage_order = smallest(swi3(all_fans_off, pro1, swi));
+    let next_stage_order = smallest(switch(all_fans_off, pro1, swi));
     let up_distance = distance(control.gai, next_stage_order);
     let or2 = or_each(threshold_outputs(blocks.les_thr2, up_distance), row.proof);
     let all_newly_started_proven = all_of(equal_each(

@@ -3,6 +3,7 @@ ghost use Rattle.std.specs.Prelude.{◌≡◌};
 ghost use Rattle.relief_fans.specs.Alarms.{fits_byte, alarms_fit, alarm_byte, alarm_bytes};
 
 // A signed byte holds this alarm.
+#[tactic(auto, using(crate::proofs::AlarmBytes::taken))]
 pub fn fits_byte(alarm: i64) -> bool
     ensures { result ≡ fits_byte alarm }
 {
@@ -18,7 +19,7 @@ pub fn alarms_fit(alarm: [i64; 4]) -> bool
 }
 
 // The alarm in a signed byte; 0 for one that does not fit, which no accepted row has.
-#[tactic(auto, unfolding(crate::specs::Alarms::alarm_byte))]
+#[tactic(auto, using(crate::proofs::AlarmBytes::kept, crate::proofs::AlarmBytes::byte_in_range))]
 pub fn alarm_byte(alarm: i64) -> i8
     ensures { result ≡ alarm_byte alarm }
 {

@@ -1,8 +1,7 @@
-// Flags of the four fans: CDL.Logical.Not, Or, And, Xor and Switch fan by fan, CDL.Logical.MultiAnd and MultiOr over the fans.
+// Flags of the four fans: CDL.Logical.Not, Or, And and Xor fan by fan, CDL.Logical.MultiAnd and MultiOr over the fans.
 ghost use Rattle.std.specs.Prelude.{◌≡◌};
-ghost use Rattle.relief_fans.specs.Flags.{not_each, or_each, and_each, xor_each, equal_each, switch_each, all_of, any_of};
+ghost use Rattle.relief_fans.specs.Flags.{not_each, or_each, and_each, xor_each, equal_each, all_of, any_of};
 
-use reals::switch::switch;
 use std::array;
 
 #[tactic(auto, unfolding(crate::specs::Flags::not_each))]
@@ -39,14 +38,6 @@ pub fn equal_each(a: [bool; 4], b: [bool; 4]) -> [bool; 4]
     ensures { result ≡ equal_each a b }
 {
     array::from_fn(|i| a[i] == b[i])
-}
-
-// The flags of a where u is true, those of b where it is false.
-#[tactic(auto, unfolding(crate::specs::Flags::switch_each))]
-pub fn switch_each(u: bool, a: [bool; 4], b: [bool; 4]) -> [bool; 4]
-    ensures { result ≡ switch_each u a b }
-{
-    array::from_fn(|i| switch(u, a[i], b[i]))
 }
 
 #[tactic(auto, unfolding(crate::specs::Flags::all_of))]

@@ -1,6 +1,6 @@
 // The orders among which the next fan to start, or to stop, is the smallest.
 ghost use Rattle.std.specs.Prelude.{◌≡◌};
-ghost use Rattle.relief_fans.specs.Orders.{pro1, pro2, swi, swi3, distance};
+ghost use Rattle.relief_fans.specs.Orders.{pro1, pro2, swi, distance};
 
 use reals::sign::abs;
 use reals::switch::{bool_to_real, switch};
@@ -34,14 +34,6 @@ pub fn swi(marked: [bool; 4], order: [f64; 4]) -> [f64; 4]
     ensures { result ≡ swi marked order }
 {
     array::from_fn(|i| switch(marked[i], order[i] + BEHIND, order[i]))
-}
-
-// The orders as they are while all fans are off; else with some put behind.
-#[tactic(auto, unfolding(crate::specs::Orders::swi3))]
-pub fn swi3(all_fans_off: bool, pro1: [f64; 4], swi: [f64; 4]) -> [f64; 4]
-    ensures { result ≡ swi3 all_fans_off pro1 swi }
-{
-    array::from_fn(|i| switch(all_fans_off, pro1[i], swi[i]))
 }
 
 // How far each fan's order is from the next one's: 0 for the next fan.
