@@ -3,6 +3,7 @@ use Prim.Native.Nat.{ℕ, ◌+◌, ◌*◌, ◌≤◌, ◌<◌}
 use mathlib.Core.Path.{◌≡◌, refl, sym, ap, ap₂, ◌∙◌}
 use mathlib.Core.List.{List, [], ◌∷◌, ◌++◌, append-nil}
 use mathlib.Core.Bool.{true, false, ◌&&◌}
+use mathlib.Core.Logic.{◌⊎◌, inl, inr}
 use native.Mathlib.Omega.{arith}
 use native.Mathlib.Numerals.{add-one}
 use lib.ListN.{length, get_or, take, drop, set, length-set}
@@ -84,42 +85,49 @@ module _ (forms : List Form) (line : List ℕ) where
 
 -- ---- writing
 
--- what is written after i words: with the words that are left, the whole line
-pub record WrittenTo (forms : List Form) (words before : List ℕ) (at : ℕ) (out : List ℕ) (i to : ℕ) : Type 0 where
-  pub within : i ≤ length words
+-- what is written when words are left, and forms for them: with these words, the whole line
+pub record WritingOn (before : List ℕ) (at : ℕ) (line out : List ℕ) (to : ℕ) (forms : List Form) (words : List ℕ) : Type 0 where
   pub room : length out ≡ length before
-  pub place : to ≡ at + 21 * i
-  pub whole : over out to (line_of (drop i forms) (drop i words)) ≡ over before at (line_of forms words)
+  pub fits : to + 21 * length words ≤ length before
+  pub columns : length words ≤ length forms
+  pub place : to + 21 * length words ≡ at + length line
+  pub whole : over out to (line_of forms words) ≡ over before at line
 
-module _ (forms : List Form) (words before : List ℕ) (at : ℕ) (columns : length words ≤ length forms) (fits : at + 21 * length words ≤ length before) where
-  pub write_start : WrittenTo forms words before at before 0 at
-  write_start = record { within = omega arith; room = refl; place = omega arith; whole = refl }
+module _ (before : List ℕ) (at : ℕ) where
+  pub write_start : (forms : List Form) (words : List ℕ) (fs : List Form) (ws : List ℕ) → fs ≡ forms → ws ≡ words → length words ≤ length forms → at + 21 * length words ≤ length before
+      → WritingOn before at (line_of forms words) before at fs ws
+  write_start forms words fs ws e f h r = rw (e, f) record { room = refl; fits = r; columns = h; place = omega (arith, length_line forms words h); whole = refl }
 
-  line_more : (d : Form) (i : ℕ) → i < length words
-      → line_of (drop i forms) (drop i words) ≡ word_column (get_or forms i d) (get_or words i 0) ++ line_of (drop (i + 1) forms) (drop (i + 1) words)
-  unfolding line_of
-  line_more d i h = ap₂ (λ (fs : List Form) (ws : List ℕ). line_of fs ws) (next d forms i (omega arith)) (next 0 words i h)
+  module _ (line : List ℕ) where
+    pub write_step : (out out' : List ℕ) (to to' : ℕ) (form : Form) (forms fs : List Form) (word : ℕ) (words ws : List ℕ)
+        → WritingOn before at line out to forms words → forms ≡ form ∷ fs → words ≡ word ∷ ws → length out' ≡ length out
+        → Wrote out to (word_column form word) 21 out' to' → WritingOn before at line out' to' fs ws
+    unfolding line_of
+    write_step out out' to to' form forms fs word words ws t e f k w = record {
+      room = k ∙ t.room;
+      fits = omega (arith, w.place, t.fits, ap length f);
+      columns = omega (arith, t.columns, ap length e, ap length f);
+      place = omega (arith, w.place, t.place, ap length f);
+      whole =
+          ap₂ (λ (l : List ℕ) (j : ℕ). over l j (line_of fs ws)) w.bytes w.place
+          ∙ over_both out to 21 (word_column form word) (line_of fs ws) w.long (omega (arith, t.fits, t.room, ap length f))
+          ∙ ap₂ (λ (x : List Form) (y : List ℕ). over out to (line_of x y)) (sym e) (sym f)
+          ∙ t.whole;
+    }
 
-  pub write_step : (out out' : List ℕ) (i to to' : ℕ) (d : Form) → WrittenTo forms words before at out i to → i < length words → length out' ≡ length out
-      → Wrote out to (word_column (get_or forms i d) (get_or words i 0)) 21 out' to' → WrittenTo forms words before at out' (i + 1) to'
-  write_step out out' i to to' d t h k w =
-      let rest : List ℕ = line_of (drop (i + 1) forms) (drop (i + 1) words) in
-      record {
-        within = omega arith;
-        room = k ∙ t.room;
-        place = omega (arith, w.place, t.place);
-        whole =
-            ap₂ (λ (l : List ℕ) (j : ℕ). over l j rest) w.bytes w.place
-            ∙ over_both out to 21 (word_column (get_or forms i d) (get_or words i 0)) rest w.long (omega (arith, t.place, t.room))
-            ∙ ap (λ (l : List ℕ). over out to l) (sym (line_more d i h))
-            ∙ t.whole;
-      }
+    -- no word is left, or no form and so no word
+    none_left : (forms : List Form) (words : List ℕ) → length words ≤ length forms → (forms ≡ []) ⊎ (words ≡ []) → words ≡ []
+    none_left forms [] h e = refl
+    none_left [] (w ∷ words) h e = absurd (omega arith)
+    none_left (f ∷ forms) (w ∷ words) h (inl e) = cc
+    none_left (f ∷ forms) (w ∷ words) h (inr e) = cc
 
-  pub write_end : (out : List ℕ) (i to : ℕ) → WrittenTo forms words before at out i to → i ≡ length words → Wrote before at (line_of forms words) (21 * length words) out to
-  write_end out i to t e =
-      let d : drop i words ≡ [] = ap (λ (k : ℕ). drop k words) e ∙ drop-length words in
-      record {
-        bytes = paste-zero out to [] ∙ ap (λ (l : List ℕ). over out to l) (sym (line_none (drop i forms))) ∙ ap (λ (ws : List ℕ). over out to (line_of (drop i forms) ws)) (sym d) ∙ t.whole;
-        long = length_line forms words columns;
-        place = t.place ∙ ap (λ (k : ℕ). at + 21 * k) e;
-      }
+    pub write_end : (out : List ℕ) (to n : ℕ) (forms : List Form) (words : List ℕ) → WritingOn before at line out to forms words → (forms ≡ []) ⊎ (words ≡ [])
+        → length line ≡ n → Wrote before at line n out to
+    write_end out to n forms words t e l =
+        let d : words ≡ [] = none_left forms words t.columns e in
+        record {
+          bytes = paste-zero out to [] ∙ ap (λ (x : List ℕ). over out to x) (sym (line_none forms)) ∙ ap (λ (ws : List ℕ). over out to (line_of forms ws)) (sym d) ∙ t.whole;
+          long = l;
+          place = omega (arith, t.place, ap length d);
+        }

@@ -61,7 +61,7 @@ read_word form bytes =
 
 -- the largest number of a form
 unfoldable pub largest : Form → ℕ
-largest form = cond (is_yes_no form) 1 (cond (is_signed form) 9223372036854775807 last_word)
+largest form = cond (is_yes_no form) 1 (cond (is_signed form) (half - 1) last_word)
 
 -- ---- the columns of a line
 

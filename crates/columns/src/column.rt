@@ -30,6 +30,7 @@ fn write_text<const W: usize>(out: &mut [u8; W], before: u8, n: u64)
 {
     out.fill(b' ');
     let mut rest = n;
+    // A place is counted, since the last digit written is followed by the mark in the place before it.
     for k in (1..W).rev() {
         out[k] = b'0' + (rest % 10) as u8;
         rest /= 10;

@@ -100,7 +100,7 @@ fn column_of(line: &[u8], k: usize) -> &[u8]
     &line[21 * k..][..21]
 }
 
-// Helper. The words of the columns of a line; none where it is badly formed.
+// Helper. The words of the columns of a line; none where it is badly formed. One index serves a word, its form and its column: iterators zipped are no plainer.
 #[tactic(auto, using(crate::proofs::Loops::read_start, crate::proofs::Loops::read_bad, crate::proofs::Loops::read_end, crate::proofs::Loops::read_none))]
 pub fn read_columns<const N: usize>(line: &[u8], forms: &[Form; N]) -> Option<[u64; N]>
     requires { N ≤ 12 }
@@ -117,7 +117,6 @@ pub fn read_columns<const N: usize>(line: &[u8], forms: &[Form; N]) -> Option<[u
 }
 
 // Helper. Writes words as columns, as far as they go, and gives the place after them.
-#[tactic(auto, using(crate::proofs::Loops::write_start, crate::proofs::Loops::write_step, crate::proofs::Loops::write_end))]
 pub fn write_columns<const N: usize, const M: usize>(
     out: &mut [u8],
     at: usize,
@@ -128,8 +127,8 @@ pub fn write_columns<const N: usize, const M: usize>(
     ensures { Wrote out.old at (line_of forms.now words.now) (21 * M) out.new result }
 {
     let mut to = at;
-    for i in 0..M {
-        to = forms[i].write_word(out, to, words[i]);
+    for (form, word) in forms.iter().zip(words) {
+        to = form.write_word(out, to, *word);
     }
     to
 }

@@ -80,7 +80,8 @@ fn scan_bytes(column: &[u8; 21]) -> Option<Number>
     Some(Number { negative, value })
 }
 
-// Whether there are spaces in the first 20 places. It looks at each, so that many are looked at together.
+// Whether there are spaces in the first 20 places. It looks at each, so that many are looked at together, where `all` would stop at the first. As a `fold` it
+// was not proved.
 #[tactic(auto, using(crate::proofs::Digits::every_none, crate::proofs::Digits::space_next))]
 fn is_blank(column: &[u8; 21]) -> bool
     ensures { result ≡ every is_space column.now 0 20 }
@@ -92,7 +93,7 @@ fn is_blank(column: &[u8; 21]) -> bool
     blank
 }
 
-// Whether there are digits in the last 19 places.
+// Whether there are digits in the last 19 places. It looks at each, as `is_blank` does.
 #[tactic(auto, using(crate::proofs::Digits::every_none, crate::proofs::Digits::digit_next))]
 fn is_long(column: &[u8; 21]) -> bool
     ensures { result ≡ every is_digit column.now 2 19 }

@@ -15,7 +15,7 @@ pub fn of_pattern(n: u64) -> f64
     f64::from_bits(n)
 }
 
-// The pattern of a float; that of the quiet NaN with no sign for a NaN.
+// The pattern of a float; that of the quiet NaN with no sign for a NaN, which has no bits to convert.
 #[tactic(auto, using(crate::proofs::Words::nan_pattern))]
 pub fn pattern(x: f64) -> u64
     ensures { result ≡ to_bits binary64 x }
@@ -26,14 +26,14 @@ pub fn pattern(x: f64) -> u64
     x.to_bits()
 }
 
-// A yes or no as a word.
+// A yes or no as a word; the name says what the number is.
 pub fn yes_no_word(b: bool) -> u64
     ensures { result ≡ yes_no_word b }
 {
     u64::from(b)
 }
 
-// The signed number of a word.
+// The signed number of a word, which is its two's complement: `signed_word` back.
 #[tactic(auto, using(crate::proofs::Words::word_signed_is))]
 pub fn word_signed(word: u64) -> i64
     ensures { result ≡ word_signed word }
@@ -41,7 +41,7 @@ pub fn word_signed(word: u64) -> i64
     word.cast_signed()
 }
 
-// The word of a signed number.
+// The word of a signed number, its two's complement: `word_signed` back.
 #[tactic(auto, using(crate::proofs::Words::signed_word_is))]
 pub fn signed_word(z: i64) -> u64
     ensures { result ≡ signed_word z }
