@@ -15,7 +15,8 @@ use Rattle.reals.proofs.Truth.{table1, holds}
 use Rattle.moving_average.specs.declared.state.MovingAverageState.{MovingAverageState}
 use Rattle.moving_average.specs.Window.{Point, point, same_time, drop_old, ends_at, store}
 use Rattle.moving_average.specs.State.{held, written, cutoff, mu_now, first_time, moving_average_is_full, moving_average_stored, moving_average_update}
-use Rattle.moving_average.specs.Lent.{leading, last_is, slot, place}
+use Rattle.moving_average.specs.declared.lent.Integrator.{Integrator}
+use Rattle.moving_average.specs.Lent.{leading, last_is, slot, place, joined}
 use Rattle.moving_average.proofs.Lists.{take_min, map_append, map_take, map_drop, part_of_front}
 use Rattle.moving_average.proofs.Loops.{gone_le}
 use Rattle.moving_average.proofs.Points.{times_of, integrals_of, points_of, first_is, drop_old_is, ends_kept, ends_at_is, store_is}
@@ -57,6 +58,9 @@ last_is_taken : (t : Float) (n : ℕ) (ts : List Float) → last_is t n (take n 
 unfolding last_is
 last_is_taken t zero ts = refl
 last_is_taken t (suc n) ts = ap (λ (x : Float). same_time x t) (get_or-take (suc n) ts n nan (omega arith))
+
+pub last_is_front : (t : Float) (n : ℕ) (ts : List Float) → n ≤ length ts → last_is t (length (take n ts)) (take n ts) ≡ last_is t n ts
+last_is_front t n ts h = rw (length-take-le n ts h) (last_is_taken t n ts)
 
 pub slot_le : (n : ℕ) (b : Bool) → slot n b ≤ n
 unfolding slot
@@ -185,6 +189,9 @@ module _ (s : MovingAverageState) (sized : Sized s) (t : Float) where
       go : (b : Bool) → moving_average_is_full s t ≡ b → cond b None (position s t) ≡ Some (k, j) → Placed k j
       go true f p = absurd (none-some _ p)
       go false f p = let q = some_pair_parts _ _ _ _ p in record { room = f; dropped = sym q.0; at = sym q.1 }
+
+pub full_asked : (i : Integrator) (ts ms : List Float) (t : Float) → length ts ≡ 512 → length ms ≡ 512 → is_none (place t i.count ts) ≡ moving_average_is_full (joined i ts ms) t
+full_asked i ts ms t l m = full_reads (joined i ts ms) (record { times = l; integrals = m }) t
 
 -- ---- the state after storing
 

@@ -1,5 +1,5 @@
 -- The start, a turn and the end of each loop over the window's arrays, as laws of lists. Assumes nothing.
-use Prim.Native.Nat.{ℕ, zero, suc, ◌+◌, ◌-◌, ◌<◌, ◌≤◌}
+use Prim.Native.Nat.{ℕ, suc, ◌+◌, ◌-◌, ◌<◌, ◌≤◌}
 use mathlib.Core.Logic.{◌⊎◌, inl, inr}
 use mathlib.Core.Path.{◌≡◌, refl, sym, ap, ◌∙◌}
 use mathlib.Core.Bool.{cond}
@@ -36,14 +36,17 @@ gone_le c ts n h = omega (arith, prefix_len-le-length (λ t. le t c) (slice 1 n 
 
 -- ---- `mu_at`: its start, a turn and its end, by the times and integrals that are still to come
 module _ (t : Float) (now : Point) where
-  pub search_start : (ts ms : List Float) (n : ℕ) → 0 < n → n ≤ length ts → n ≤ length ms → integral_at t (zip_with point (take n ts) (take n ms)) now
-      ≡ cond (le t (get_or ts 0 nan)) (get_or ms 0 nan)
-      (integral_after t (point (get_or ts 0 nan) (get_or ms 0 nan)) (zip_with point (take (n - 1) (drop 1 ts)) (take (n - 1) (drop 1 ms)) ++ (now ∷ [])))
+  pub search_none : (ts ms : List Float) → (ts ≡ []) ⊎ (ms ≡ []) → integral_at t (zip_with point ts ms) now ≡ now.integral
   unfolding integral_at zip_with
-  search_start ts ms zero h k l = absurd (omega arith)
-  search_start [] ms (suc n) h k l = absurd (omega arith)
-  search_start (x ∷ ts) [] (suc n) h k l = absurd (omega arith)
-  search_start (x ∷ ts) (y ∷ ms) (suc n) h k l = let e : suc n - 1 ≡ n = omega arith in rw e
+  search_none [] ms e = refl
+  search_none (x ∷ ts) [] e = refl
+  search_none (x ∷ ts) (y ∷ ms) (inl e) = absurd (omega (arith, ap length e))
+  search_none (x ∷ ts) (y ∷ ms) (inr e) = absurd (omega (arith, ap length e))
+
+  pub search_start : (ts ms : List Float) (x y : Float) (us vs : List Float) → ts ≡ x ∷ us → ms ≡ y ∷ vs → integral_at t (zip_with point ts ms) now
+      ≡ cond (le t x) y (integral_after t (point x y) (zip_with point us vs ++ (now ∷ [])))
+  unfolding integral_at zip_with
+  search_start ts ms x y us vs e f = rw (e, f)
 
   module _ (p : Point) where
     pub search_turn : (ts ms : List Float) (x y : Float) (us vs : List Float) → ts ≡ x ∷ us → ms ≡ y ∷ vs → integral_after t p (zip_with point ts ms ++ (now ∷ []))

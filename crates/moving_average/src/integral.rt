@@ -1,5 +1,5 @@
 // `mu_at` of relief_fan_group.rs: the integral of the input at a past time, over the window's arrays, which are lent.
-ghost use Rattle.std.specs.Prelude.{◌≡◌, ◌≤◌, take};
+ghost use Rattle.std.specs.Prelude.{◌≡◌};
 ghost use mathlib.Core.List.{zip_with};
 ghost use Rattle.moving_average.specs.Window.{point};
 ghost use Rattle.moving_average.specs.Integral.{on_line, integral_at};
@@ -17,27 +17,18 @@ pub fn on_line(t: f64, t0: f64, m0: f64, t1: f64, m1: f64) -> f64
     }
 }
 
-// Helper: the integral at `target`, through the n points and the present one.
-pub fn mu_at(
-    times: &[f64; 512],
-    integrals: &[f64; 512],
-    n: usize,
-    target: f64,
-    t_now: f64,
-    mu_now: f64,
-) -> f64
-    requires { n ≤ 512 }
-    ensures { result ≡ integral_at target (zip_with point (take n times.now) (take n integrals.now)) (point t_now mu_now) }
+// Helper: the integral at `target`, through the points and the present one.
+pub fn mu_at(times: &[f64], integrals: &[f64], target: f64, t_now: f64, mu_now: f64) -> f64
+    ensures { result ≡ integral_at target (zip_with point times.now integrals.now) (point t_now mu_now) }
 {
-    if n == 0 {
+    let mut points = times.iter().zip(integrals);
+    let Some((&(mut t0), &(mut m0))) = points.next() else {
         return mu_now;
-    }
-    let mut t0 = times[0];
-    let mut m0 = integrals[0];
+    };
     if target <= t0 {
         return m0;
     }
-    for (&t1, &m1) in times[1..n].iter().zip(&integrals[1..n]) {
+    for (&t1, &m1) in points {
         if target <= t1 {
             return on_line(target, t0, m0, t1, m1);
         }

@@ -68,13 +68,14 @@ impl Integrator {
         let start = self.start(t);
         let mu = self.mu_now(t, input);
         let n = self.len();
-        let old = mu_at(times, integrals, n, t - MovingAverageState::DELTA, t, mu);
-        let first = first_time(times, n, start);
+        let (times, integrals) = (&times[..n], &integrals[..n]);
+        let old = mu_at(times, integrals, t - MovingAverageState::DELTA, t, mu);
+        let first = times.first().copied().unwrap_or(start);
         (mu - old) / Self::averaged_time(start, first, t)
     }
 
     // Where a row at t is put: how many points go, and the index of the new one; none where there is no room.
-    #[tactic(auto, using(crate::proofs::Loops::gone_le, crate::proofs::Held::slot_le, crate::proofs::Held::slot_room), unfolding(crate::specs::Lent::place))]
+    #[tactic(auto, using(crate::proofs::Loops::gone_le, crate::proofs::Held::last_is_front, crate::proofs::Held::slot_le, crate::proofs::Held::slot_room), unfolding(crate::specs::Lent::place))]
     fn place(self, times: &[f64; 512], t: f64) -> Option<(usize, usize)>
         ensures place { result ≡ place t self.count times.now }
         ensures in_range { IfSome result (λ p. (p.0 + p.1 ≤ 512) × (p.1 < 512)) }
@@ -83,8 +84,9 @@ impl Integrator {
         if n > 512 {
             return None;
         }
-        let k = old_points(times, n, t - MovingAverageState::DELTA);
-        let again = ends_at(times, n, t);
+        let times = &times[..n];
+        let k = old_points(times, t - MovingAverageState::DELTA);
+        let again = ends_at(times, t);
         if (n - k == 512) & !again {
             return None;
         }
@@ -92,6 +94,7 @@ impl Integrator {
     }
 
     // Helper: `MovingAverageState::is_full`.
+    #[tactic(auto, using(crate::proofs::Held::full_asked))]
     pub fn is_full(self, times: &[f64; 512], t: f64) -> bool
         ensures { (integrals : List Float) → length integrals ≡ 512 → result ≡ moving_average_is_full (joined self times.now integrals) t }
     {
@@ -121,12 +124,4 @@ impl Integrator {
             count: j + 1,
         }
     }
-}
-
-// Helper: the first of the n points' times, or the start where there is none.
-fn first_time(times: &[f64; 512], n: usize, start: f64) -> f64
-    requires { n ≤ 512 }
-    ensures { result ≡ get_or (take n times.now) 0 start }
-{
-    times[..n].first().copied().unwrap_or(start)
 }

@@ -5,7 +5,8 @@ ghost use Rattle.moving_average.specs.State.{moving_average_new, moving_average_
 
 use crate::lent::Integrator;
 
-// The points of the window are the first `count` entries of `times` and `integrals`, oldest first.
+// The points of the window are the first `count` entries of `times` and `integrals`, oldest first: fixed memory and no
+// heap, where the Rust has a list. The two stand side by side, as C lends them.
 #[derive(Clone, Copy)]
 pub struct MovingAverageState {
     pub t_start: f64,

@@ -1,4 +1,6 @@
 -- `output`: each callee's equation is folded into the definition.
+use Rattle.std.proofs.Common.{rules, ◌≡◌, take}
+use lib.ListN.{get_or}
 use Rattle.moving_average.specs.State.{moving_average_output}
 use Rattle.moving_average.specs.Lent.{joined}
 use Rattle.moving_average.proofs.Held.{Sized, held_front, held_first}
@@ -12,12 +14,13 @@ returns c =
     let sized : Sized whole = record { times = c.told-times; integrals = c.told-integrals } in
     let n = c.len-n.result in
     let e = c.len-n.ensures in
+    let first : c.unwrap_or-first.result ≡ get_or (take n a.times.now) 0 c.start-start.result = search rules in
     rw (
       held_first whole sized n e _,
       held_front whole sized n e,
       ← c.start-start.ensures,
       ← c.mu_now-mu.ensures,
       ← c.mu_at-old.ensures,
-      ← c.first_time-first.ensures,
+      ← first,
       ← c.averaged_time.ensures,
     )
