@@ -1,4 +1,4 @@
--- Economizer lines (document 01, 'Row lines'): time first, then the record's fields in order; the answer is the status and the outputs in the order of
+-- Economizer lines: time first, then the record's fields in order; the answer is the status and the outputs in the order of
 -- `ControllerTrace`, or the status alone.
 use Rattle.std.specs.Prelude.{ℕ, List, [], ◌∷◌, eqb, get_or}
 use Rattle.std.specs.Float.{binary64}

@@ -1,4 +1,4 @@
--- Relief lines (document 01, 'Row lines'): time first, then the record's fields in order, arrays by index; the answer is the status, the mean, four speeds and
+-- Relief lines: time first, then the record's fields in order, arrays by index; the answer is the status, the mean, four speeds and
 -- four dampers, or the status alone.
 use Rattle.std.specs.Prelude.{ℕ, List, [], ◌∷◌, false, eqb, pos, get_or}
 use Rattle.std.specs.Float.{binary64}

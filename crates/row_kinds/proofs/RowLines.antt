@@ -6,11 +6,8 @@ use mathlib.Core.Bool.{Bool, true, false, cond}
 use lib.Dec.{ltb}
 use lib.Ieee.{Float}
 use lib.ListN.{length, take, drop}
-use Rattle.std.specs.Prelude.{Result}
-use Rattle.refusals.specs.declared.Refusal.{Refusal}
 use Rattle.columns.proofs.Writing.{wrote_text}
 use Rattle.line_stream.specs.Lines.{Answer, Fed, answers, feed, lines_after, rest_after, onward, fed_from}
-use Rattle.line_stream.specs.RowKind.{RowKind, Stepped}
 use Rattle.row_writer.specs.Lines.{WindowLeft}
 use Rattle.freeze_protection.specs.declared.types.FreezeState.{FreezeState}
 use Rattle.economizer_controller.specs.declared.types.EconomizerState.{EconomizerState}
@@ -61,10 +58,6 @@ module _ {S Q : Type 0} (f : S → Q) (line : S → List ℕ → Answer S) (line
           ap (λ (a : Answer Q). record { next = (feed line' a.next [] bytes).next; part = (feed line' a.next [] bytes).part; said = a.said ++ (feed line' a.next [] bytes).said }) (alike s l)
           ∙ ap (λ (b : Fed Q). record { next = b.next; part = b.part; said = (line s l).said ++ b.said }) (feed_as (line s l).next [] bytes)
       by false = refl
-
--- a row by another name for it
-pub stepped_as : {S R C : Type 0} {kind : RowKind S R C} {s s' : S} {r r' : R} {a : Result C Refusal} → Stepped kind s r s' a → r ≡ r' → Stepped kind s r' s' a
-stepped_as {kind = k} {s} h e = record { moved = h.moved ∙ ap (λ x. k.next s x) e; said = h.said ∙ ap (λ x. k.answer s x) e }
 
 -- ---- the window, after one row and another
 

@@ -25,6 +25,7 @@ pub struct Passed {
 }
 
 // Answers a line in the bytes from `at` on, with 5 where it is badly formed, and gives the place after its answer.
+#[tactic(auto, unfolding(line_stream::specs::RowKind::line_answered, line_stream::specs::RowKind::read_answered, line_stream::specs::RowKind::row_line, refusals::specs::Refusals::refusal_number, columns::specs::Forms::read_line))]
 fn answer_line<K: RowLines<N, M>, const N: usize, const M: usize>(
     line: &[u8],
     out: &mut [u8],
@@ -48,6 +49,7 @@ fn answer_line<K: RowLines<N, M>, const N: usize, const M: usize>(
 }
 
 // Answers the lines of a text in the bytes from `at` on. The first line ends at the place `first`.
+#[tactic(auto, using(line_stream::proofs::Turns::start, line_stream::proofs::Turns::answer_fits, line_stream::proofs::Turns::turn, crate::proofs::RowLines::window_on))]
 fn answer_lines<K: RowLines<N, M>, const N: usize, const M: usize>(
     text: &[u8],
     out: &mut [u8],
@@ -75,7 +77,8 @@ fn answer_lines<K: RowLines<N, M>, const N: usize, const M: usize>(
     Passed { rest: i, at: sent }
 }
 
-// Helper. Answers the lines of a text by their kind. The first line ends at the place `first`. Only the state of that kind is touched.
+// Helper. Answers the lines of a text by their kind. The first line ends at the place `first`. Only the state of that kind is touched. A `match`, since the first
+// line of the input names the kind.
 pub fn pass_rows(
     text: &[u8],
     out: &mut [u8],

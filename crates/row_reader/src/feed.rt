@@ -14,7 +14,7 @@ use row_kinds::kind::{Kind, Phase, phase_after};
 use row_kinds::rows::{Passed, pass_rows};
 use row_kinds::types::{Fed, RowReader};
 
-// Rows of a kind from a fresh state. The states of the other kinds stay.
+// Rows of a kind from a fresh state. The states of the other kinds stay. A `match`, since the first line of the input names the kind.
 #[tactic(auto, unfolding(relief_fan_group::specs::Step::relief_fresh, moving_average::specs::State::moving_average_new))]
 fn start(kind: Kind, times: &mut [f64; 512], integrals: &mut [f64; 512], reader: &mut RowReader)
     ensures { carried reader.new times.new integrals.new
@@ -66,7 +66,8 @@ fn begin(
     }
 }
 
-// The lines of a text after the first of the input; nothing is said of them once the reader has stopped.
+// The lines of a text after the first of the input; nothing is said of them once the reader has stopped. A `match`, since the input leads the reader from phase to
+// phase.
 fn pass(
     text: &[u8],
     out: &mut [u8],
@@ -160,7 +161,7 @@ fn last_line(part: &[u8], out: &mut [u8]) -> usize
     write_status_line(out, 0, Refusal::BadlyFormed.number())
 }
 
-// Helper. The end of the input: what is said of the bytes kept of a line, at the start of the output.
+// Helper. The end of the input: what is said of the bytes kept of a line, at the start of the output. A `match`, since the phase is what the input has led to.
 #[tactic(auto, unfolding(refusals::specs::Refusals::refusal_number))]
 pub fn finish(reader: &RowReader, part: &[u8], out: &mut [u8]) -> usize
     requires { 22 ≤ length out.old }

@@ -77,7 +77,7 @@ fn turn(
     }
 }
 
-// Turn after turn. Nothing says that an input ends, so the turns are counted, up to a number that no run uses up.
+// Turn after turn. Each loop has to end, and nothing says that an input does: the turns are counted, up to a number that no run uses up.
 fn play(
     rt: &(impl Input + Print + Eprint),
     buffer: &mut [u8],

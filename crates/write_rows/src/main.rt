@@ -25,7 +25,7 @@ fn words_of(bytes: &[u8; 120]) -> [u64; 15] {
     })
 }
 
-// A row of a kind, by its number in the record, written from a place on.
+// A row of a kind, by its number in the record, written from a place on. A number and a `match`: the kind is known from the test's input only, and is asked here alone.
 fn write_by(kind: u64, out: &mut [u8], at: usize, words: [u64; 12]) -> Result<usize, Refusal> {
     match kind {
         0 => write_row::<FreezeLines, _, _>(out, at, FreezeLines::row_of(&words)),
@@ -75,7 +75,7 @@ fn is_read(rt: &impl Input, bytes: &mut [u8; 120]) -> io::Result<bool> {
     }
 }
 
-// Record after record. Nothing says that an input ends, so the records are counted, up to a number that no run uses up.
+// Record after record. Each loop has to end, and nothing says that an input does: the records are counted, up to a number that no run uses up.
 fn main(rt: HostRuntime) -> io::Result<()> {
     let mut bytes = [0; 120];
     let mut out = [0; 512];
