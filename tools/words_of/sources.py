@@ -34,7 +34,8 @@ class Sources(Names):
         lines = [f'// `{kind.typed}` {self.of_crate(kind)}as words. {MADE}', 'ghost use Rattle.std.specs.Prelude.{◌≡◌' + (', map' if self.lists_of(kind) else '') + '};']
         lines += [f'ghost use Rattle.{self.crate}.specs.{kind.page}.{{{", ".join(names)}}};', '']
         lines += grouped(self.uses(kind, asked))
-        lines += ['', '#[repr(C)]', '#[derive(Clone, Copy)]', f'pub struct {kind.words} {{']
+        lines += [''] + (['// The number of the variant, and a place for what each holds: C has no enum that carries a value.'] if kind.variants else [])
+        lines += ['#[repr(C)]', '#[derive(Clone, Copy)]', f'pub struct {kind.words} {{']
         lines += [f'    pub {name}: {self.words_type(part)},' for name, part in (held(kind) if kind.variants else word_fields(kind))]
         lines += ['}']
         if 'of' in asked:
@@ -58,7 +59,8 @@ class Sources(Names):
         a relief row needs a third more of the stack."""
         name, argument = self.list_call(kind, length, what), 'values' if what == 'of' else 'words'
         given, made = (kind.typed, kind.words) if what == 'of' else (kind.words, kind.typed)
-        return ['', f'pub fn {name}({argument}: [{given}; {length}]) -> [{made}; {length}]',
+        return ['', '// A function of its own: the check does not find eight such lists written inside their struct.',
+                f'pub fn {name}({argument}: [{given}; {length}]) -> [{made}; {length}]',
                 f'    ensures {{ result ≡ map {kind.to if what == "of" else kind.back} {argument} }}', '{',
                 f'    array::from_fn(|i| {made}::from({argument}[i]))', '}']
 

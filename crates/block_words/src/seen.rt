@@ -2,6 +2,7 @@
 ghost use Rattle.std.specs.Prelude.{◌≡◌};
 ghost use Rattle.block_words.specs.Seen.{seen_words, seen_of};
 
+// The number of the variant, and a place for what each holds: C has no enum that carries a value.
 #[repr(C)]
 #[derive(Clone, Copy)]
 pub struct SeenWords {

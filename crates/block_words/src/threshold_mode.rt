@@ -4,6 +4,7 @@ ghost use Rattle.block_words.specs.ThresholdMode.{threshold_mode_words, threshol
 
 use reals::threshold::ThresholdMode;
 
+// The number of the variant, and a place for what each holds: C has no enum that carries a value.
 #[repr(C)]
 #[derive(Clone, Copy)]
 pub struct ThresholdModeWords {

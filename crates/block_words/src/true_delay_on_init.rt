@@ -42,6 +42,7 @@ impl From<TrueDelayOnInitWords> for TrueDelayOnInitState {
     }
 }
 
+// A function of its own: the check does not find eight such lists written inside their struct.
 pub fn true_delay_on_init_words_of_four(
     values: [TrueDelayOnInitState; 4],
 ) -> [TrueDelayOnInitWords; 4]
@@ -50,6 +51,7 @@ pub fn true_delay_on_init_words_of_four(
     array::from_fn(|i| TrueDelayOnInitWords::from(values[i]))
 }
 
+// A function of its own: the check does not find eight such lists written inside their struct.
 pub fn true_delay_on_init_values_of_four(
     words: [TrueDelayOnInitWords; 4],
 ) -> [TrueDelayOnInitState; 4]

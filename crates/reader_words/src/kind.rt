@@ -4,6 +4,7 @@ ghost use Rattle.reader_words.specs.Kind.{kind_words, kind_of};
 
 use row_kinds::kind::Kind;
 
+// The number of the variant, and a place for what each holds: C has no enum that carries a value.
 #[repr(C)]
 #[derive(Clone, Copy)]
 pub struct KindWords {

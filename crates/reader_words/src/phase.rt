@@ -5,6 +5,7 @@ ghost use Rattle.reader_words.specs.Phase.{phase_words, phase_of};
 use crate::kind::KindWords;
 use row_kinds::kind::{Kind, Phase};
 
+// The number of the variant, and a place for what each holds: C has no enum that carries a value.
 #[repr(C)]
 #[derive(Clone, Copy)]
 pub struct PhaseWords {
