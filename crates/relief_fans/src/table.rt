@@ -23,6 +23,7 @@ pub fn ena_rel(supply: [bool; 2]) -> [f64; 4]
 }
 
 // The order of each enabled relief fan, its weight; 0 for the others.
+#[tactic(auto, using(crate::proofs::Weighing::untouched, crate::proofs::Weighing::fan, crate::proofs::Weighing::most, crate::proofs::Weighing::turned, crate::proofs::Weighing::worked))]
 pub fn gai(ena_rel: [f64; 4]) -> [f64; 4]
     ensures { result ≡ gai ena_rel }
 {
