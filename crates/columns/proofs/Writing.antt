@@ -128,15 +128,16 @@ byte_over l at x h =
 pub over_both : (l : List ℕ) (at n : ℕ) (a b : List ℕ) → length a ≡ n → at + n ≤ length l → over (over l at a) (at + n) b ≡ over l at (a ++ b)
 over_both l at n a b e h = ap (λ (k : ℕ). over (over l at a) (at + k) b) (sym e) ∙ over_over l at a (omega arith) b
 
--- k bytes put into the places from `at` on
-pub placed : (l a r bytes t : List ℕ) (at k : ℕ) → a ≡ take at l → r ≡ drop at l → bytes ≡ t → length t ≡ k → Wrote l at t k (a ++ (bytes ++ drop k r)) (at + k)
-placed l a r bytes t at k first rest e h =
+-- k bytes put into the places from `at` on, between those before and those after
+pub placed : (l before rest after bytes t : List ℕ) (at k : ℕ) → before ≡ take at l → rest ≡ drop at l → after ≡ drop k rest → bytes ≡ t → length t ≡ k
+    → Wrote l at t k (before ++ (bytes ++ after)) (at + k)
+placed l before rest after bytes t at k first second third e h =
     let n : at + k ≡ at + length t = omega arith in
+    let last : after ≡ drop (at + length t) l = third ∙ ap (λ (r : List ℕ). drop k r) second ∙ drop-drop k at l ∙ ap (λ (j : ℕ). drop j l) n in
     record {
       bytes =
-          ap (λ (b : List ℕ). a ++ (b ++ drop k r)) e
-          ∙ ap₂ (λ (x y : List ℕ). x ++ (t ++ drop k y)) first rest
-          ∙ ap (λ (y : List ℕ). take at l ++ (t ++ y)) (drop-drop k at l ∙ ap (λ (j : ℕ). drop j l) n)
+          ap (λ (b : List ℕ). before ++ (b ++ after)) e
+          ∙ ap₂ (λ (x y : List ℕ). x ++ (t ++ y)) first last
           ∙ sym (append_assoc (take at l) t (drop (at + length t) l));
       long = h;
       place = refl;
