@@ -228,12 +228,10 @@ module _ (p q r s : ℕ) (h : p < 100) (i : q < 100) (j : r < 100) (k : s < 100)
       let x = eight_joined (p * 100 + q) (r * 100 + s) (bit_and (w * 100 + w / 65536) 281470681808895) (omega arith) (omega arith) (fours_are_in w e) in
       (omega arith, x.0, x.1)
 
--- what is worked from the bytes of eight digits: it stays within 64 bits, and is the number of these
+-- what is worked from the bytes of eight digits: it stays within 64 bits (what the masks leave does so anyway), and is the number of these
 pub record Joined (word n : ℕ) : Type 0 where
   pub least : 3472328296227680304 ≤ word
   pub ones_small : ones_in word < 720575940379279360
-  pub twos_small : twos_in word < 28147497671065600
-  pub fours_small : fours_in word < 42949672960000
   pub is : (fours_in word * 10000 + fours_in word / 4294967296) % 4294967296 ≡ n
 
 module _ (a b c d e f g h : ℕ) where
@@ -268,7 +266,5 @@ module _ (a b c d e f g h : ℕ) where
         record {
           least = rw q ones_least;
           ones_small = rw (q, ones_are) ones_below;
-          twos_small = u.0;
-          fours_small = u.1;
           is = u.2 ∙ omega arith;
         }

@@ -259,15 +259,6 @@ text_join m w (suc k) a b p h =
     ∙ append_assoc (text m w a) (digits k (b / 10)) ((48 + b % 10) ∷ [])
     ∙ ap (λ (l : List ℕ). text m w a ++ l) (sym (digits_more k b))
 
--- three digits and the mark before them in five places
-pub text_three : (m n : ℕ) → 100 ≤ n → n < 1000 → text m 5 n ≡ 32 ∷ m ∷ (48 + n / 100) ∷ (48 + n / 10 % 10) ∷ (48 + n % 10) ∷ []
-text_three m n h k =
-    let t : 10 ≤ n = omega arith in
-    let u : 10 ≤ n / 10 = omega arith in
-    let v : n / 10 / 10 < 10 = omega arith in
-    let e : n / 10 / 10 % 10 ≡ n / 100 = omega arith in
-    simp (le-ltb _ _ t, le-ltb _ _ u, lt-ltb _ _ v, e)
-
 -- a column from its first digits and two groups of eight
 module _ (m a x y n : ℕ) (p : 0 < a) (q : x < 100000000) (r : y < 100000000) (is : n ≡ (a * 100000000 + x) * 100000000 + y) where
   pub text_groups : text m 21 n ≡ text m 5 a ++ digits 8 x ++ digits 8 y
