@@ -43,12 +43,7 @@ impl Form {
     {
         match self {
             Form::Float => Some(n),
-            _ => {
-                if n > self.largest() {
-                    return None;
-                }
-                Some(n)
-            }
+            _ => (n <= self.largest()).then_some(n),
         }
     }
 
