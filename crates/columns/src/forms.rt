@@ -111,7 +111,7 @@ pub fn read_columns<const N: usize>(line: &[u8], forms: &[Form; N]) -> Option<[u
     Some(words)
 }
 
-// Helper. Writes words as columns, as far as they go, and gives the place after them.
+// Helper. Writes words as columns by their forms, of which there may be more, and gives the place after them.
 pub fn write_columns<const N: usize, const M: usize>(
     out: &mut [u8],
     at: usize,
