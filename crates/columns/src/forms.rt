@@ -43,7 +43,13 @@ impl Form {
     {
         match self {
             Form::Float => Some(n),
-            _ => (n <= self.largest()).then_some(n),
+            _ => {
+                // An `if` and not `then_some`, with which a relief row took 14 instructions more.
+                if n > self.largest() {
+                    return None;
+                }
+                Some(n)
+            }
         }
     }
 
