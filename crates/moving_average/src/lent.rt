@@ -81,10 +81,7 @@ impl Integrator {
         ensures in_range { IfSome result (λ p. (p.0 + p.1 ≤ 512) × (p.1 < 512)) }
     {
         let n = self.count;
-        if n > 512 {
-            return None;
-        }
-        let times = &times[..n];
+        let times = times.get(..n)?;
         let k = old_points(times, t - MovingAverageState::DELTA);
         let again = ends_at(times, t);
         if (n - k == 512) & !again {
