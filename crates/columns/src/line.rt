@@ -26,16 +26,16 @@ pub fn write_status_line(out: &mut [u8], at: usize, status: u64) -> usize
     end_line(out, end)
 }
 
-// Helper. Writes the line of words, with its newline, and gives the place after it.
+// Helper. Writes the line of words, as far as they go, with its newline, and gives the place after it.
 #[tactic(auto, unfolding(crate::specs::Line::words_line))]
-pub fn write_line<const N: usize>(
+pub fn write_line<const N: usize, const M: usize>(
     out: &mut [u8],
     at: usize,
     forms: &[Form; N],
-    words: &[u64; N],
+    words: &[u64; M],
 ) -> usize
-    requires { at + 21 * N < length out.old }
-    ensures { Wrote out.old at (words_line forms.now words.now) (21 * N + 1) out.new result }
+    requires { (M ≤ N) × (at + 21 * M < length out.old) }
+    ensures { Wrote out.old at (words_line forms.now words.now) (21 * M + 1) out.new result }
 {
     let end = write_columns(out, at, forms, words);
     end_line(out, end)
