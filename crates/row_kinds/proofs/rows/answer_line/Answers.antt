@@ -17,7 +17,7 @@ write_line-requires g c =
     let room : c.args.at + 21 * g.row.M < length c.args.out.now = omega (arith, long, m, l.sized.room, c.requires) in
     let a : g.row.M * 1 < 9223372036854775808 = omega (arith, m, l.sized.answer_columns) in
     let b : g.row.M * 8 < 9223372036854775808 = omega (arith, m, l.sized.answer_columns) in
-    (a, (b, room))
+    (a, (b, (omega arith, room)))
 
 pub returns-in-Err-clause-answered : goal.returns-in-Err-clause-answered
 unfolding line_answered read_answered row_line read_line

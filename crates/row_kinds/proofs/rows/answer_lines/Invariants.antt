@@ -11,7 +11,7 @@ abbrev pub invariant-loop-j : goal.invariant-loop-j
 invariant-loop-j g l =
     let k = g.K.RowLines.kind in
     let b = l.initial in
-    Held (line_answered k) (kind_room k g.met.K.RowLines.sized) l.text b.out (fed_from (line_answered k) l.text (g.K.RowLines.held b.state b.times b.integrals) 0 l.first) l.at l.out (g.K.RowLines.held l.state l.times l.integrals) l.sent l.i l.j
+    Held (line_answered k) (kind_room k g.met.K.RowLines.sized) l.text b.out (fed_from (line_answered k) l.text (g.K.RowLines.held l.state b.times b.integrals) 0 l.first) l.at l.out (g.K.RowLines.held l.held l.times l.integrals) l.sent l.i l.j
     × WindowLeft g.K.RowLines.has_window b.times b.integrals l.times l.integrals
 
 abbrev pub decreases-loop-j : goal.decreases-loop-j
