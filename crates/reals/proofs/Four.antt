@@ -1,4 +1,5 @@
--- Lists of four by index, and a loop over the four fans that works an array over in place, one store a turn. Assumes nothing.
+-- Lists of four by index, and loops over the four fans: an array that is filled from the front, or worked over in place, one store a turn, and a value that
+-- takes one step a turn. Assumes nothing.
 use mathlib.Core.Path.{◌≡◌, refl, ◌∙◌}
 use mathlib.Core.List.{List, [], ◌∷◌}
 use Prim.Native.Nat.{ℕ, zero, suc, ◌+◌, ◌≤◌, ◌<◌}
@@ -45,6 +46,9 @@ module _ {A : Type 0} where
       all (a ∷ b ∷ c ∷ []) e = absurd (omega arith)
       all (a ∷ b ∷ c ∷ d ∷ x ∷ xs) e = absurd (omega arith)
 
+  pub done : {f : ℕ → A} {z : A} {n : ℕ} {out : List A} → Fill f (z ∷ z ∷ z ∷ z ∷ []) n out → 4 ≤ n → out ≡ each4 f
+  done = over refl
+
   -- setting an element leaves those after it
   after_set : (l : List A) (i m : ℕ) (a d : A) → i < m → get_or (set l i a) m d ≡ get_or l m d
   after_set [] i m a d h = refl
@@ -60,6 +64,25 @@ module _ {A : Type 0} where
   pub yet : {f : ℕ → A} {o : List A} {n : ℕ} {out : List A} (d : A) → Fill f o n out → get_or out n d ≡ get_or o n d
   yet {f} {o} {n} d h = rw h.so (filled_yet f o n n d (omega arith))
 
+  -- what z is after the steps f 0, f 1, .. of which there are n
+  abbrev pub stepped : (A → ℕ → A) → A → ℕ → A
+  stepped f z zero = z
+  stepped f z (suc n) = f (stepped f z n) n
+
+  -- the invariant of a loop that takes steps
+  pub record Steps (f : A → ℕ → A) (z : A) (n : ℕ) (y : A) : Type 0 where
+    pub most : n ≤ 4
+    pub so : y ≡ stepped f z n
+
+  pub begin : (f : A → ℕ → A) (z : A) → Steps f z 0 z
+  begin f z = record { most = omega arith; so = refl }
+
+  pub step : {f : A → ℕ → A} {z : A} {n : ℕ} {y v : A} → Steps f z n y → n < 4 → v ≡ f y n → Steps f z (n + 1) v
+  step {f} {z} {n} {y} {v} h l e = record { most = omega arith; so = rw (e, add-one n, h.so) }
+
+  pub ends : {f : A → ℕ → A} {z : A} {n : ℕ} {y : A} → Steps f z n y → 4 ≤ n → y ≡ fold4 f z
+  ends {f} {z} {n} {y} h l = let e : n ≡ 4 = omega arith in rw e at h.so
+
 -- a fold over an array of four is four steps by index
 module _ {A B : Type 0} where
   pub folded : (h : B → A → B) (z : B) (values : List A) (d : A) → length values ≡ 4 → fold h z values ≡ fold4 (λ y i. h y (get_or values i d)) z
@@ -69,3 +92,8 @@ module _ {A B : Type 0} where
   folded h z (a ∷ b ∷ []) d l = absurd (omega arith)
   folded h z (a ∷ b ∷ c ∷ []) d l = absurd (omega arith)
   folded h z (a ∷ b ∷ c ∷ e ∷ x ∷ xs) d l = absurd (omega arith)
+
+-- what a loop that fills an array, and one that takes steps, is proved by: its start, a turn, its end
+pub ruleset fill_loop = (start, more, done)
+
+pub ruleset step_loop = (begin, step, ends)

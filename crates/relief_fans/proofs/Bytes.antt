@@ -3,11 +3,12 @@ use Prim.Native.Nat.{ℕ, zero, suc, ◌+◌, ◌<◌, ◌≤◌}
 use native.Mathlib.Omega.{arith}
 use mathlib.Core.Path.{◌≡◌, refl, ap, ◌∙◌}
 use mathlib.Core.List.{List, [], ◌∷◌, map}
+use lib.Dec.{eqb}
 use lib.Ieee.{of_int, round, of_bits, div, nan}
 use lib.ListN.{get_or, length}
 use Rattle.reals.specs.Four.{real}
 use Rattle.reals.specs.Switch.{bool_to_real}
-use Rattle.relief_fans.specs.Table.{sta_vec, rel_fan_mat}
+use Rattle.relief_fans.specs.Table.{sta_vec, rel_fan_mat, on_supply}
 use Rattle.relief_fans.proofs.AsCoded.{weights, supplies, as_real, entries}
 
 -- the bytes, made floats, are the constants of the definitions, to the bit
@@ -24,6 +25,17 @@ at_map f (x ∷ xs) (suc i) d e l = at_map f xs i d e (omega arith)
 -- the weight of relief fan i
 pub weight_is : (i : ℕ) → i < 4 → as_real (get_or weights i 0) ≡ real sta_vec i
 weight_is i l = at_map as_real weights i 0 nan l ∙ ap (λ t. real (get_or t 0 []) i) table_is
+
+-- the entries of relief fan i, and whether it is on each supply fan
+module _ (i : ℕ) (l : i < 4) where
+  entries_are : entries (get_or supplies i 0) ≡ get_or rel_fan_mat i []
+  entries_are = at_map entries supplies i 0 [] l ∙ ap (λ t. get_or t (suc i) []) table_is
+
+  pub first_is : bool_to_real (eqb (get_or supplies i 0) 0) ≡ on_supply i 0
+  first_is = ap (λ row. real row 0) entries_are
+
+  pub second_is : bool_to_real (eqb (get_or supplies i 0) 1) ≡ on_supply i 1
+  second_is = ap (λ row. real row 1) entries_are
 
 -- what the relief fans from i on weigh together
 abbrev pub to_come : ℕ → ℕ
