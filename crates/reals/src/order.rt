@@ -6,19 +6,19 @@ ghost use Rattle.reals.specs.Order.{greater, lesser, smallest};
 use crate::switch::switch;
 
 // The greater of two numbers: `a.max(b)` in Rust.
-#[tactic(auto, using(crate::proofs::FloatOrder::differs), unfolding(crate::specs::Order::greater))]
+#[tactic(auto, unfolding(crate::specs::Order::greater))]
 pub fn greater(a: f64, b: f64) -> f64
     ensures { result ≡ greater a b }
 {
-    switch(a != a, b, switch(a < b, b, a))
+    switch(a.is_nan(), b, switch(a < b, b, a))
 }
 
 // The lesser of two numbers: `a.min(b)` in Rust.
-#[tactic(auto, using(crate::proofs::FloatOrder::differs), unfolding(crate::specs::Order::lesser))]
+#[tactic(auto, unfolding(crate::specs::Order::lesser))]
 pub fn lesser(a: f64, b: f64) -> f64
     ensures { result ≡ lesser a b }
 {
-    switch(a != a, b, switch(b < a, b, a))
+    switch(a.is_nan(), b, switch(b < a, b, a))
 }
 
 // The smallest of four numbers: `min4` in relief_fan_group.rs.
