@@ -25,7 +25,7 @@ def exported(library, module, text):
     about = next(line for line in text.split('\n') if line.startswith('// ') and 'tools/words' not in line)
     functions = FUNCTION.findall(text)
     words = set(re.findall(r'\w+|[≡≤]', ' '.join(clauses for *_, clauses in functions)))
-    lines = [f'// Written by tools/words from the library {library}.', about]
+    lines = [f'// Written by tools/words from the library {library}: an export says its clauses itself, and takes no generic record.', about]
     pages = {}
     for name, path in imports(text, 'ghost use').items():
         if name.strip('◌') in words:

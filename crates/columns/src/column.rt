@@ -88,7 +88,6 @@ fn write_long(out: &mut [u8; 21], negative: bool, n: u64)
 }
 
 // Writes a number, or its negation, into the 21 places of a column. Rows hold mostly numbers of one digit, and of 19 or 20.
-
 fn write_number(out: &mut [u8; 21], negative: bool, n: u64)
     ensures { out.new ≡ column negative n }
 {
@@ -99,7 +98,8 @@ fn write_number(out: &mut [u8; 21], negative: bool, n: u64)
     }
 }
 
-// Helper. Writes a number, or its negation, into the 21 places from `at` on, and gives the place after them.
+// Helper. Writes a number, or its negation, into the 21 places from `at` on, and gives the place after them: lines are of several lengths, and all go into the
+// one buffer that the caller lends.
 pub fn write_column(out: &mut [u8], at: usize, negative: bool, n: u64) -> usize
     requires { at + 21 ≤ length out.old }
     ensures { Wrote out.old at (column negative n) 21 out.new result }

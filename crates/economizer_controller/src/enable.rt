@@ -48,7 +48,8 @@ impl EnableState {
         supply_fan_status: bool,
         freeze_protection_stage: i64,
     ) -> EnableSignals
-        ensures { result ≡ enable_output self t outdoor_air_temperature outdoor_air_cutoff supply_fan_status freeze_protection_stage }
+        ensures { result ≡ enable_output self t outdoor_air_temperature outdoor_air_cutoff
+            supply_fan_status freeze_protection_stage }
     {
         let dry_bulb_delta = outdoor_air_temperature - outdoor_air_cutoff;
         let outdoor_air_condition = self.hysteresis.output(dry_bulb_delta);

@@ -32,14 +32,13 @@ pub fn economizer_fresh() -> EconomizerState
 pub fn economizer_signals(state: EconomizerState, row: EconomizerRow) -> EconomizerSignals
     ensures { result ≡ economizer_signals state row }
 {
-    let enable_state = state.enable;
     let setpoint = row.minimum_outdoor_airflow_setpoint_normalized;
     let airflow = row.outdoor_airflow_normalized;
     let fan = row.supply_fan_status;
     let loop_signal = state.minimum_outdoor_air_loop.output(setpoint, airflow);
     let loop_enabled = minimum_outdoor_air_loop_enabled(fan, row.operation_mode);
     let limits = damper_limits(loop_signal, loop_enabled);
-    let enable = enable_state.output(
+    let enable = state.enable.output(
         row.time,
         row.outdoor_air_temperature,
         OUTDOOR_AIR_CUTOFF,
@@ -82,18 +81,16 @@ pub fn economizer_next(
     ensures { result ≡ economizer_next state row signals }
 {
     let t = row.time;
-    let enable_state = state.enable;
     let setpoint = row.minimum_outdoor_airflow_setpoint_normalized;
     let airflow = row.outdoor_airflow_normalized;
     let fan = row.supply_fan_status;
     let next_loop = state
         .minimum_outdoor_air_loop
         .update(t, setpoint, airflow, fan);
-    let next_enable = enable_state.update(t, signals.enable);
     EconomizerState {
         last: Some(t),
         minimum_outdoor_air_loop: next_loop,
-        enable: next_enable,
+        enable: state.enable.update(t, signals.enable),
     }
 }
 

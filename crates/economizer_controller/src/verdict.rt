@@ -6,7 +6,7 @@ use crate::types::{EconomizerRow, EconomizerState};
 use reals::sign::is_finite;
 use refusals::{Verdict, judge};
 
-// No number of the row, its time included, is a NaN or an infinity.
+// Every number of the row, its time included, is finite. A function of each sequence: the rows have other fields.
 #[tactic(auto, unfolding(crate::specs::Verdict::numbers_finite))]
 pub fn numbers_finite(row: EconomizerRow) -> bool
     ensures { result ≡ numbers_finite row }

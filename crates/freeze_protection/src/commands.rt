@@ -1,4 +1,5 @@
-// The outputs of a row, worked from its signals: each latch switches what the one below it gives.
+// The outputs of a row, worked from its signals: each latch switches what the one below it gives. Requests and alarm levels are the model's numbers, which go
+// out as they are.
 ghost use Rattle.std.specs.Prelude.{◌≡◌};
 ghost use Rattle.freeze_protection.specs.Commands.{freeze_commands};
 

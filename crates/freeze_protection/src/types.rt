@@ -77,6 +77,7 @@ pub struct FreezeSignals {
     pub lat2_y: bool,
     pub or2_y: bool,
     pub lat_y: bool,
+    // 0 to 3: the stage as the Rust and the row lines have it.
     pub stage: u64,
     pub stage_1_heat: f64,
     pub stage_3_measurement: f64,

@@ -6,7 +6,7 @@ use crate::types::{FreezeRow, FreezeState};
 use reals::sign::is_finite;
 use refusals::{Verdict, judge};
 
-// Every number of the row, its time included, is finite.
+// Every number of the row, its time included, is finite. A function of each sequence: the rows have other fields.
 #[tactic(auto, unfolding(crate::specs::Verdict::numbers_finite))]
 pub fn numbers_finite(row: FreezeRow) -> bool
     ensures { result ≡ numbers_finite row }

@@ -16,7 +16,7 @@ pub fn line_end(chunk: &[u8], from: usize) -> usize
     from + memchr(b'\n', rest).unwrap_or(rest.len())
 }
 
-// Helper. Keeps more bytes of a line after the `len` that are kept of it, up to 256 in all, and gives their number.
+// Helper. Keeps more bytes of a line after the `len` that are kept of it, up to 256 in all, and gives their number: fixed memory, which the caller holds.
 #[tactic(auto, using(crate::proofs::Keeping::kept))]
 pub fn keep(line: &mut [u8; 256], len: usize, more: &[u8]) -> usize
     requires { len ≤ 256 }

@@ -32,8 +32,7 @@ impl LatchState {
     pub fn update(mut self, u: bool, clear: bool) -> Self
         ensures { result ≡ latch_update self u clear }
     {
-        let y = self.output(u, clear);
-        self.held = y;
+        self.held = self.output(u, clear);
         self.prev_u = u;
         self
     }

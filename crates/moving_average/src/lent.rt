@@ -93,7 +93,8 @@ impl Integrator {
     // Helper: `MovingAverageState::is_full`.
     #[tactic(auto, using(crate::proofs::Held::full_asked))]
     pub fn is_full(self, times: &[f64; 512], t: f64) -> bool
-        ensures { (integrals : List Float) → length integrals ≡ 512 → result ≡ moving_average_is_full (joined self times.now integrals) t }
+        ensures { (integrals : List Float) → length integrals ≡ 512
+            → result ≡ moving_average_is_full (joined self times.now integrals) t }
     {
         self.place(times, t).is_none()
     }
@@ -106,7 +107,8 @@ impl Integrator {
         t: f64,
         input: f64,
     ) -> Integrator
-        ensures { joined result times.new integrals.new ≡ moving_average_update (joined self times.old integrals.old) t input }
+        ensures { joined result times.new integrals.new
+            ≡ moving_average_update (joined self times.old integrals.old) t input }
     {
         let Some((k, j)) = self.place(times, t) else {
             return self;

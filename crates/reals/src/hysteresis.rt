@@ -30,8 +30,7 @@ impl HysteresisState {
     pub fn update(mut self, u: f64) -> Self
         ensures { result ≡ hysteresis_update self u }
     {
-        let y = self.output(u);
-        self.previous = y;
+        self.previous = self.output(u);
         self
     }
 }

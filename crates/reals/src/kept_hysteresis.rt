@@ -33,8 +33,7 @@ impl KeptHysteresisState {
     pub fn update(mut self, u: f64) -> Self
         ensures { result ≡ kept_hysteresis_update self u }
     {
-        let y = self.output(u);
-        self.previous = y;
+        self.previous = self.output(u);
         self
     }
 }

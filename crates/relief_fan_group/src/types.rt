@@ -16,6 +16,7 @@ pub struct ReliefRow {
     pub time: f64,
     pub supply: [bool; 2],
     pub pressure: f64,
+    // Numbers: a row may have any.
     pub alarm: [i64; 4],
     pub proof: [bool; 4],
 }

@@ -7,7 +7,7 @@ use reals::sign::is_finite;
 use refusals::{Refusal, Verdict, judge};
 use relief_fans::alarms::alarms_fit;
 
-// Every number of the row, its time included, is finite.
+// Every number of the row, its time included, is finite. A function of each sequence: the rows have other fields.
 #[tactic(auto, unfolding(crate::specs::Verdict::numbers_finite))]
 pub fn numbers_finite(row: ReliefRow) -> bool
     ensures { result ≡ numbers_finite row }

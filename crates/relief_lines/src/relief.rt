@@ -65,17 +65,16 @@ impl RowLines<12, 10> for ReliefLines {
 
     #[tactic(auto, unfolding(crate::specs::Relief::relief_row_of))]
     fn row_of(words: &[u64; 12]) -> ReliefRow {
-        let time = of_pattern(words[0]);
-        let pressure = of_pattern(words[3]);
-        let alarm1 = word_signed(words[4]);
-        let alarm2 = word_signed(words[5]);
-        let alarm3 = word_signed(words[6]);
-        let alarm4 = word_signed(words[7]);
         ReliefRow {
-            time,
+            time: of_pattern(words[0]),
             supply: [words[1] == 1, words[2] == 1],
-            pressure,
-            alarm: [alarm1, alarm2, alarm3, alarm4],
+            pressure: of_pattern(words[3]),
+            alarm: [
+                word_signed(words[4]),
+                word_signed(words[5]),
+                word_signed(words[6]),
+                word_signed(words[7]),
+            ],
             proof: [words[8] == 1, words[9] == 1, words[10] == 1, words[11] == 1],
         }
     }

@@ -114,7 +114,7 @@ fn economizer_hysteresis(rt: &impl Print) -> io::Result<()> {
     })
 }
 
-// F7: how many rows, 60 s apart and off the setpoint, the loop takes until its output is a NaN.
+// F7: how many rows, 60 s apart and off the setpoint, the loop takes until its output is a NaN. The rows are counted: there is no list of them.
 fn rows_to_nan() -> u64 {
     let mut s = PidState::new();
     let mut t = 0.0;
@@ -135,7 +135,7 @@ fn freeze_loop(rt: &impl Print) -> io::Result<()> {
     )
 }
 
-// F7: at how many of rows 10 to 139 the loop's sum is between -132.4 and -132.3 times the sum before.
+// F7: at how many of rows 10 to 139 the loop's sum is between -132.4 and -132.3 times the sum before. The rows are counted here too.
 fn growing_rows() -> u64 {
     let mut s = PidState::new();
     let mut t = 0.0;

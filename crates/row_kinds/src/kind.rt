@@ -41,7 +41,7 @@ impl Phase {
     pub fn first(self) -> bool
         ensures { result ≡ phase_first self }
     {
-        matches!(self, Phase::First)
+        self == Phase::First
     }
 
     // The reader reads no more.
@@ -49,6 +49,6 @@ impl Phase {
     pub fn stopped(self) -> bool
         ensures { result ≡ phase_stopped self }
     {
-        matches!(self, Phase::Stopped)
+        self == Phase::Stopped
     }
 }

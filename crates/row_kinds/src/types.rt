@@ -19,7 +19,7 @@ pub struct RowReader {
     pub econ: EconomizerState,
 }
 
-// What a chunk gives: the number of bytes kept of a line that has not ended, and of those to be written.
+// What a chunk gives: the number of bytes kept of a line that has not ended, in a buffer that the caller holds, and of those to be written.
 #[derive(Clone, Copy)]
 pub struct Fed {
     pub len: usize,

@@ -1,4 +1,5 @@
-// The reader: chunks of bytes in, bytes out. The line buffer, the output and the arrays of the relief window are lent.
+// The reader: chunks of bytes in, bytes out. The line buffer, the output and the arrays of the relief window are lent, one by one, as the C interface lends them:
+// memory is fixed, so the buffer has a number beside it of the bytes kept.
 ghost use Rattle.std.specs.Prelude.{◌≡◌, ◌≤◌, length, take};
 ghost use Rattle.columns.specs.Column.{Wrote};
 ghost use Rattle.row_kinds.specs.Reader.{last_line};

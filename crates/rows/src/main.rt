@@ -2,6 +2,7 @@
 // before more is read, so it serves a pipe. Where reading or writing fails it says so on standard error, and stops; its exit status is 0 then too.
 #![tactic(auto)]
 
+ghost use Rattle.std.specs.Prelude.{◌≡◌, false};
 ghost use Rattle.row_kinds.specs.Rows.{Lent};
 ghost use Rattle.rows.specs.Turns.{TurnLeft};
 
@@ -33,12 +34,16 @@ fn put(rt: &(impl Print + Eprint), answers: &[u8]) -> bool {
     written
 }
 
-// No next turn.
-const NO_MORE: Turned = Turned {
-    len: 0,
-    written: true,
-    more: false,
-};
+// The last turn, in which answers were written, there were none, or they could not be.
+fn last(written: bool) -> Turned
+    ensures { result ≡ record { len = 0; written = written; more = false } }
+{
+    Turned {
+        len: 0,
+        written,
+        more: false,
+    }
+}
 
 // Reads once, and answers the lines that end in what came. There is no next turn where no more comes, the answers cannot be written, or the first
 // line names no kind.
@@ -58,14 +63,13 @@ fn turn(
     let n = match rt.reader().read(buffer) {
         Ok(0) => {
             let said = finish(reader, &line[..had], out);
-            put(rt, &out[..said]);
-            return NO_MORE;
+            return last(put(rt, &out[..said]));
         }
         Ok(n) => n,
         // How the input ends is not known.
         Err(_) => {
             say(rt, "rows: the input could not be read");
-            return NO_MORE;
+            return last(true);
         }
     };
     let fed = feed(&buffer[..n], line, out, times, integrals, reader, had);

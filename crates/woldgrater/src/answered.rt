@@ -4,7 +4,7 @@ ghost use Rattle.refusals.specs.Refusals.{refusal_number};
 
 use refusals::Refusal;
 
-// The status of a row, and the commands of an accepted one.
+// The status of a row, and the commands of an accepted one: what the records that C gets are filled from.
 #[derive(Clone, Copy)]
 pub struct Answered<W> {
     // 0, or the number of the refusal: C has no Result.

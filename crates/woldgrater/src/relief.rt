@@ -11,6 +11,8 @@ use relief_words::relief::ReliefWords;
 use relief_words::relief_commands::ReliefCommandsWords;
 use relief_words::relief_row::ReliefRowWords;
 
+// A record for each sequence, since an export takes none that is generic.
+
 // The state after a row, its status, and the commands of an accepted one: those of a refused one are 0 and mean nothing.
 #[repr(C)]
 #[derive(Clone, Copy)]

@@ -1,4 +1,4 @@
-// Written by tools/words from the library woldgrater.
+// Written by tools/words from the library woldgrater: an export says its clauses itself, and takes no generic record.
 // The economizer, a call a row, in memory that the caller holds.
 ghost use Rattle.std.specs.Prelude.{◌≡◌};
 ghost use Rattle.economizer_controller.specs.Step.{economizer_fresh, economizer_row};

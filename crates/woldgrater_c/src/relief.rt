@@ -1,4 +1,4 @@
-// Written by tools/words from the library woldgrater.
+// Written by tools/words from the library woldgrater: an export says its clauses itself, and takes no generic record.
 // The relief fan group, a call a row, in memory that the caller holds: the words of its state, and the two arrays of its window, which are lent.
 ghost use Rattle.std.specs.Prelude.{◌≡◌};
 ghost use Rattle.relief_fan_group.specs.Step.{relief_fresh, relief_row};

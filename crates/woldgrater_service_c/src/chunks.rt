@@ -1,4 +1,4 @@
-// Written by tools/words from the library woldgrater_service.
+// Written by tools/words from the library woldgrater_service: an export says its clauses itself, and takes no generic record.
 // A row file chunk by chunk. The caller holds what is carried from call to call: the state, the bytes kept of a line and the arrays of the relief window.
 ghost use Rattle.std.specs.Prelude.{◌≡◌};
 ghost use Rattle.block_words.specs.Flags.{flag_word};

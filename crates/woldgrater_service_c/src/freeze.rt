@@ -1,4 +1,4 @@
-// Written by tools/words from the library woldgrater_service.
+// Written by tools/words from the library woldgrater_service: an export says its clauses itself, and takes no generic record.
 // Freeze protection: what a row's commands would be worked from, for a display or a logger, and the line of a row.
 ghost use Rattle.std.specs.Prelude.{◌≡◌};
 ghost use Rattle.row_writer.specs.Writing.{write_row, ReadsBack};

@@ -1,4 +1,4 @@
-// Written by tools/words from the library woldgrater_service.
+// Written by tools/words from the library woldgrater_service: an export says its clauses itself, and takes no generic record.
 // A whole row file in one call.
 ghost use Rattle.woldgrater_service.specs.Play.{PlayedOrRefused};
 

@@ -1,4 +1,4 @@
-// Written by tools/words from the library woldgrater_service.
+// Written by tools/words from the library woldgrater_service: an export says its clauses itself, and takes no generic record.
 // The relief fan group: what a row's commands would be worked from, for a display or a logger, the alarms that a state remembers, and the line of a row.
 ghost use Rattle.std.specs.Prelude.{◌≡◌};
 ghost use Rattle.relief_fan_group.specs.Remembered.{relief_alarm};

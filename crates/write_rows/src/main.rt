@@ -38,7 +38,7 @@ fn write_by(kind: u64, out: &mut [u8], at: usize, words: [u64; 12]) -> Result<us
     }
 }
 
-// Prints a number as a line.
+// Prints a number as a line of one column, as the answers of `rows` are.
 fn print_number(rt: &impl Print, n: u64) -> io::Result<()> {
     let mut line = [0u8; 22];
     write_status_line(&mut line, 0, n);
