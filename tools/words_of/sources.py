@@ -97,9 +97,10 @@ class Sources(Names):
         return (self.call(part, what) or '{}').format(f'{owner}.{name}')
 
     def struct_made(self, owner, made, fields, kind, what):
-        """A struct made of another. The borrow checker takes an array into a struct from a variable only."""
+        """A struct made of another. Arrays are named first: of some structs the borrow checker takes them from variables only."""
         lists = [(name, part) for name, part in kind.fields if declared.array(part)]
-        lines = [f'        let {name} = {self.made_of(owner, name, part, what)};' for name, part in lists] + [f'        {made} {{']
+        lines = ['        // By name first: the borrow checker takes some of these arrays from variables only.'] if lists else []
+        lines += [f'        let {name} = {self.made_of(owner, name, part, what)};' for name, part in lists] + [f'        {made} {{']
         for name, part in fields:
             if (name, part) in lists:
                 lines.append(f'            {name},')

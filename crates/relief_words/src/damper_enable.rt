@@ -21,6 +21,7 @@ impl From<DamperEnable> for DamperEnableWords {
     #[tactic(auto, unfolding(crate::specs::DamperEnable::damper_enable_words, block_words::specs::Flags::flag_word))]
     #[inline(always)]
     fn from(value: DamperEnable) -> Self {
+        // By name first: the borrow checker takes some of these arrays from variables only.
         let ena_dam = array::from_fn(|i| u64::from(value.ena_dam[i]));
         DamperEnableWords {
             damper_open: u64::from(value.damper_open),

@@ -22,6 +22,7 @@ impl From<PressureControl> for PressureControlWords {
     #[tactic(auto, unfolding(crate::specs::PressureControl::pressure_control_words, block_words::specs::Flags::flag_word))]
     #[inline(always)]
     fn from(value: PressureControl) -> Self {
+        // By name first: the borrow checker takes some of these arrays from variables only.
         let ena_rel = value.ena_rel;
         let gai = value.gai;
         PressureControlWords {

@@ -50,6 +50,7 @@ impl From<ReliefBlocks> for ReliefBlocksWords {
     #[tactic(auto, unfolding(crate::specs::ReliefBlocks::relief_blocks_words))]
     #[inline(always)]
     fn from(value: ReliefBlocks) -> Self {
+        // By name first: the borrow checker takes some of these arrays from variables only.
         let alarms = value.alarms;
         let gre_thr1 = threshold_words_of_four(value.gre_thr1);
         let les_thr1 = threshold_words_of_four(value.les_thr1);
@@ -93,6 +94,7 @@ impl From<ReliefBlocksWords> for ReliefBlocks {
     #[tactic(auto, unfolding(crate::specs::ReliefBlocks::relief_blocks_of))]
     #[inline(always)]
     fn from(words: ReliefBlocksWords) -> Self {
+        // By name first: the borrow checker takes some of these arrays from variables only.
         let alarms = words.alarms;
         let gre_thr1 = threshold_values_of_four(words.gre_thr1);
         let les_thr1 = threshold_values_of_four(words.les_thr1);

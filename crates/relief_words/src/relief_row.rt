@@ -21,6 +21,7 @@ impl From<ReliefRowWords> for ReliefRow {
     #[tactic(auto, unfolding(crate::specs::ReliefRow::relief_row_of, block_words::specs::Flags::word_flag))]
     #[inline(always)]
     fn from(words: ReliefRowWords) -> Self {
+        // By name first: the borrow checker takes some of these arrays from variables only.
         let supply = array::from_fn(|i| words.supply[i] != 0);
         let alarm = words.alarm;
         let proof = array::from_fn(|i| words.proof[i] != 0);

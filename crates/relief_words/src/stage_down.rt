@@ -25,6 +25,7 @@ impl From<StageDown> for StageDownWords {
     #[tactic(auto, unfolding(crate::specs::StageDown::stage_down_words, block_words::specs::Flags::flag_word))]
     #[inline(always)]
     fn from(value: StageDown) -> Self {
+        // By name first: the borrow checker takes some of these arrays from variables only.
         let pro2 = value.pro2;
         let down_distance = value.down_distance;
         let xor = array::from_fn(|i| u64::from(value.xor[i]));

@@ -25,6 +25,7 @@ impl From<StageUp> for StageUpWords {
     #[tactic(auto, unfolding(crate::specs::StageUp::stage_up_words, block_words::specs::Flags::flag_word))]
     #[inline(always)]
     fn from(value: StageUp) -> Self {
+        // By name first: the borrow checker takes some of these arrays from variables only.
         let pro1 = value.pro1;
         let up_distance = value.up_distance;
         let or2 = array::from_fn(|i| u64::from(value.or2[i]));
