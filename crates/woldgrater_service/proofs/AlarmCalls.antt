@@ -1,4 +1,4 @@
--- The alarms that a relief state remembers, over every list of rows handed over call by call from a start (document 02, job 10). Assumes nothing.
+-- The alarm that a relief state remembers of a fan is that of the last accepted row, over every list of rows handed over call by call from a start. Assumes nothing.
 use Prim.Native.Nat.{ℕ}
 use mathlib.Core.Path.{◌≡◌, refl, ap, ◌∙◌}
 use mathlib.Core.List.{List, [], ◌∷◌, map}

@@ -1,4 +1,4 @@
--- What a caller gets that feeds a row file chunk by chunk (document 01, 'Row lines').
+-- What a caller gets that feeds a row file chunk by chunk: the answers to its lines, however it is cut.
 use Rattle.std.specs.Prelude.{ℕ, ◌≤◌, ◌<◌, ◌≡◌, Bool, List, [], ◌∷◌, map, length, take, Float}
 use Rattle.columns.specs.Column.{Wrote}
 use Rattle.line_stream.specs.Lines.{whole}
@@ -35,11 +35,6 @@ reader_in m = carried (row_reader_of m.state.reader) m.times m.integrals
 
 abbrev pub part_in : State → List ℕ → List ℕ
 part_in state line = take state.kept line
-
--- a number of bytes within the buffer of a line, for one that may be past it
-pub record KeptOf (kept within : ℕ) : Type 0 where
-  pub fits : within ≤ 256
-  pub same : (line : List ℕ) → length line ≡ 256 → take within line ≡ take kept line
 
 -- what a chunk leaves: the reader, with the states of the other kinds as they were; the part of a line; and the answers at the start of the output, with every
 -- other byte of that as it was

@@ -45,7 +45,7 @@ relief_shown state row =
     let signals = signals_at state row in
     relief_shown_by (relief_verdict state.blocks row (moving_average_is_full state.window row.time)) (relief_left state.blocks signals) signals
 
--- the alarm of a fan that there is, and whether there is (document 02, job 10)
+-- the alarm of a fan that there is, and 1; 0 and 0 where there is none
 unfoldable pub alarm_given : Option ℤ → AlarmGiven
 alarm_given (Some alarm) = record { known = 1; alarm = alarm }
 alarm_given None = record { known = 0; alarm = pos 0 }

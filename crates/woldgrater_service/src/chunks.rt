@@ -1,4 +1,5 @@
 // A row file chunk by chunk. The caller holds what is carried from call to call: the state, the bytes kept of a line and the arrays of the relief window.
+// The arrays are lent one by one, as C gives them.
 ghost use Rattle.std.specs.Prelude.{◌≡◌, ◌≤◌, length};
 ghost use Rattle.woldgrater_service.specs.Play.{status_length, room};
 ghost use Rattle.block_words.specs.Flags.{flag_word};
@@ -15,6 +16,7 @@ use row_kinds::types::{RowReader, fresh_at};
 #[derive(Clone, Copy)]
 pub struct State {
     pub reader: RowReaderWords,
+    // Apart from those bytes: their buffer, of fixed length, is held by C.
     pub kept: usize,
 }
 
@@ -98,11 +100,10 @@ pub fn woldgrater_feed(
 {
     if has_room(out.len(), chunk.len()) {
         let fed = feed_chunk(chunk, out, line, times, integrals, state);
-        let next = fed.state;
         return Fed {
-            state: next,
+            state: fed.state,
             sent: fed.sent,
-            stopped: stopped_word(next),
+            stopped: stopped_word(fed.state),
         };
     }
     Fed {

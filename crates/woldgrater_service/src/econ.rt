@@ -19,6 +19,9 @@ use economizer_controller::step::economizer_signals;
 use economizer_controller::types::{EconomizerRow, EconomizerState};
 use economizer_controller::verdict::economizer_verdict;
 use row_writer::write_row;
+use woldgrater::answered::Answered;
+
+// A record for each sequence, since an export takes none that is generic.
 
 // The status of a row, and what the commands of an accepted one are worked from.
 #[repr(C)]
@@ -37,18 +40,11 @@ pub fn woldgrater_econ_signals(state: EconomizerWords, row: EconomizerRowWords) 
 {
     let held = EconomizerState::from(state);
     let sampled = EconomizerRow::from(row);
-    match economizer_verdict(held, sampled) {
-        Ok(()) => {
-            let signals = economizer_signals(held, sampled);
-            EconomizerShown {
-                status: 0,
-                signals: EconomizerSignalsWords::from(signals),
-            }
-        }
-        Err(refusal) => EconomizerShown {
-            status: refusal.number(),
-            signals: EconomizerSignalsWords::default(),
-        },
+    let shown = economizer_verdict(held, sampled).map(|()| economizer_signals(held, sampled));
+    let signals = Answered::from(shown);
+    EconomizerShown {
+        status: signals.status,
+        signals: signals.commands,
     }
 }
 

@@ -21,6 +21,9 @@ use freeze_words::freeze_left::FreezeLeftWords;
 use freeze_words::freeze_row::FreezeRowWords;
 use freeze_words::freeze_signals::FreezeSignalsWords;
 use row_writer::write_row;
+use woldgrater::answered::Answered;
+
+// A record for each sequence, since an export takes none that is generic.
 
 // The status of a row, and what the commands of an accepted one are worked from.
 // Beside it the seconds left on its timers.
@@ -43,20 +46,13 @@ pub fn woldgrater_freeze_signals(state: FreezeWords, row: FreezeRowWords) -> Fre
 {
     let held = FreezeState::from(state);
     let sampled = FreezeRow::from(row);
-    match freeze_verdict(held, sampled) {
-        Ok(()) => {
-            let signals = freeze_signals(held, sampled);
-            FreezeShown {
-                status: 0,
-                signals: FreezeSignalsWords::from(signals),
-                left: FreezeLeftWords::from(freeze_left(held, signals)),
-            }
-        }
-        Err(refusal) => FreezeShown {
-            status: refusal.number(),
-            signals: FreezeSignalsWords::default(),
-            left: FreezeLeftWords::default(),
-        },
+    let shown = freeze_verdict(held, sampled).map(|()| freeze_signals(held, sampled));
+    let left = Answered::from(shown.map(|signals| freeze_left(held, signals)));
+    let signals = Answered::from(shown);
+    FreezeShown {
+        status: signals.status,
+        signals: signals.commands,
+        left: left.commands,
     }
 }
 

@@ -1,20 +1,21 @@
 // The reader on arrays that a caller lends, of which nothing is known but what their types say.
-ghost use Rattle.std.specs.Prelude.{◌≤◌, length, take};
+// They come one by one, as C gives them, with `kept` beside the buffer of a line: memory is fixed, and C holds it.
+ghost use Rattle.std.specs.Prelude.{◌≡◌, ◌≤◌, length, min, take};
 ghost use Rattle.row_kinds.specs.Rows.{carried, FedTo, Finished};
 ghost use Rattle.woldgrater_service.specs.Play.{status_length, room};
-ghost use Rattle.woldgrater_service.specs.Chunks.{KeptOf};
 
 use row_kinds::types::{Fed, RowReader};
 use row_reader::feed::{feed, finish};
 
 // The bytes kept of a line: all of its buffer where a caller says more.
 fn kept_of(kept: usize) -> usize
-    ensures { KeptOf kept result }
+    ensures { result ≡ min kept 256 }
 {
     kept.min(256)
 }
 
 // Helper. A chunk, into an output with room for its answers.
+#[tactic(auto, using(std::proofs::lemmas::List::take_min))]
 pub fn feed_lent(
     chunk: &[u8],
     out: &mut [u8],

@@ -1,4 +1,5 @@
 // The relief fan group: what a row's commands would be worked from, for a display or a logger, the alarms that a state remembers, and the line of a row.
+// The arrays of the window are lent one by one, as C gives them.
 ghost use Rattle.std.specs.Prelude.{◌≡◌};
 ghost use Rattle.relief_fan_group.specs.Remembered.{relief_alarm};
 ghost use Rattle.row_writer.specs.Writing.{write_row, ReadsBack};
@@ -21,6 +22,9 @@ use relief_words::relief_left::ReliefLeftWords;
 use relief_words::relief_row::ReliefRowWords;
 use relief_words::relief_signals::ReliefSignalsWords;
 use row_writer::write_row;
+use woldgrater::answered::Answered;
+
+// A record for each sequence, since an export takes none that is generic.
 
 // The status of a row, and what the commands of an accepted one are worked from.
 // Beside it the seconds left on its timers.
@@ -47,21 +51,16 @@ pub fn woldgrater_relief_signals<'a>(
     let ReliefHeld { integrator, blocks } = ReliefHeld::from(state);
     let sampled = ReliefRow::from(row);
     let full = integrator.is_full(times, sampled.time);
-    match relief_verdict(blocks, sampled, full) {
-        Ok(()) => {
-            let average = integrator.output(times, integrals, sampled.time, sampled.pressure);
-            let signals = relief_signals(blocks, sampled, average);
-            ReliefShown {
-                status: 0,
-                signals: ReliefSignalsWords::from(signals),
-                left: ReliefLeftWords::from(relief_left(blocks, signals)),
-            }
-        }
-        Err(refusal) => ReliefShown {
-            status: refusal.number(),
-            signals: ReliefSignalsWords::default(),
-            left: ReliefLeftWords::default(),
-        },
+    let shown = relief_verdict(blocks, sampled, full).map(|()| {
+        let average = integrator.output(times, integrals, sampled.time, sampled.pressure);
+        relief_signals(blocks, sampled, average)
+    });
+    let left = Answered::from(shown.map(|signals| relief_left(blocks, signals)));
+    let signals = Answered::from(shown);
+    ReliefShown {
+        status: signals.status,
+        signals: signals.commands,
+        left: left.commands,
     }
 }
 
