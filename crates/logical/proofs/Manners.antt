@@ -11,7 +11,7 @@ use Rattle.logical.specs.HourTimer.{hour_timer_held, hour_timer_output, hour_tim
 
 -- the timer with these fields
 abbrev with_fields : Float → Option Float → Bool → Bool → Bool → HourTimerState
-with_fields n entry pre_u passed runs_on = record { threshold = n; entry_time = entry; prev_u = pre_u; passed = passed; runs_on = runs_on }
+with_fields n entry pre_u passed runs_on = record { timer = record { threshold = n; entry_time = entry; prev_u = pre_u; passed = passed }; runs_on = runs_on }
 
 module _ (t : Float) where
   output_by : (n : Float) (e : Option Float) (pre_u p runs_on u : Bool)
@@ -40,9 +40,9 @@ module _ (t : Float) where
   update_by n e false p false false = refl
 
 pub output_is : (s : HourTimerState) (t : Float) (u : Bool) → held_timer_output (hour_timer_held s u) t (u || s.runs_on) ≡ hour_timer_output s t u
-output_is s t u = output_by t s.threshold s.entry_time s.prev_u s.passed s.runs_on u
+output_is s t u = output_by t s.timer.threshold s.timer.entry_time s.timer.prev_u s.timer.passed s.runs_on u
 
 pub update_is : (s : HourTimerState) (t : Float) (u : Bool)
     → let next = held_timer_update (hour_timer_held s u) t (u || s.runs_on) in
     ◌≡◌ {A = HourTimerState} (with_fields next.threshold next.entry_time u next.passed s.runs_on) (hour_timer_update s t u)
-update_is s t u = update_by t s.threshold s.entry_time s.prev_u s.passed s.runs_on u
+update_is s t u = update_by t s.timer.threshold s.timer.entry_time s.timer.prev_u s.timer.passed s.runs_on u

@@ -31,10 +31,10 @@ run_on_timer_update s t u = record {
 -- ---- either manner
 -- a timer with its manner, and the timer without it
 abbrev pub hour_timer : Bool → HeldTimerState → HourTimerState
-hour_timer runs_on s = record { threshold = s.threshold; entry_time = s.entry_time; prev_u = s.prev_u; passed = s.passed; runs_on = runs_on }
+hour_timer runs_on s = record { timer = s; runs_on = runs_on }
 
 abbrev pub timer_in : HourTimerState → HeldTimerState
-timer_in s = record { threshold = s.threshold; entry_time = s.entry_time; prev_u = s.prev_u; passed = s.passed }
+timer_in s = s.timer
 
 unfoldable pub hour_timer_new : Float → Bool → HourTimerState
 hour_timer_new threshold runs_on = hour_timer runs_on (held_timer_new threshold)
@@ -47,4 +47,9 @@ hour_timer_update s t u = hour_timer s.runs_on (cond s.runs_on (run_on_timer_upd
 
 -- how the code works both: a held timer that is given u, or, where it runs on, an input that stays true and rises where u does
 unfoldable pub hour_timer_held : HourTimerState → Bool → HeldTimerState
-hour_timer_held s u = record { threshold = s.threshold; entry_time = s.entry_time; prev_u = s.prev_u || s.runs_on && not u; passed = s.passed }
+hour_timer_held s u = record {
+  threshold = s.timer.threshold;
+  entry_time = s.timer.entry_time;
+  prev_u = s.timer.prev_u || s.runs_on && not u;
+  passed = s.timer.passed;
+}

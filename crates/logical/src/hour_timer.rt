@@ -8,23 +8,17 @@ use crate::timer::TimerOutput;
 
 #[derive(Clone, Copy)]
 pub struct HourTimerState {
-    pub threshold: f64,
-    pub entry_time: Option<f64>,
-    pub prev_u: bool,
-    pub passed: bool,
+    pub timer: HeldTimerState,
     pub runs_on: bool,
 }
 
 impl HourTimerState {
-    #[tactic(auto, unfolding(crate::specs::HourTimer::hour_timer_new, crate::specs::HeldTimer::held_timer_new))]
+    #[tactic(auto, unfolding(crate::specs::HourTimer::hour_timer_new))]
     pub fn new(threshold: f64, runs_on: bool) -> Self
         ensures { result ≡ hour_timer_new threshold runs_on }
     {
         HourTimerState {
-            threshold,
-            entry_time: None,
-            prev_u: false,
-            passed: threshold <= 0.0,
+            timer: HeldTimerState::new(threshold),
             runs_on,
         }
     }
@@ -35,10 +29,8 @@ impl HourTimerState {
         ensures { result ≡ hour_timer_held self u }
     {
         HeldTimerState {
-            threshold: self.threshold,
-            entry_time: self.entry_time,
-            prev_u: self.prev_u | (self.runs_on & !u),
-            passed: self.passed,
+            prev_u: self.timer.prev_u | (self.runs_on & !u),
+            ..self.timer
         }
     }
 
@@ -55,10 +47,7 @@ impl HourTimerState {
     {
         let next = self.held(u).update(t, u | self.runs_on);
         HourTimerState {
-            threshold: next.threshold,
-            entry_time: next.entry_time,
-            prev_u: u,
-            passed: next.passed,
+            timer: HeldTimerState { prev_u: u, ..next },
             runs_on: self.runs_on,
         }
     }
