@@ -1,5 +1,5 @@
--- The text of a number in its column (decimal, right-justified, 21 wide, spaces before, no leading zeros, a minus only before a negative integer), and what
--- it is to write it into a buffer.
+-- The text of a number in its column (docs/ROW_FILES.md: decimal, right-justified, 21 wide, spaces before, no leading zeros, a minus only before a negative
+-- integer), and what it is to write it into a buffer.
 use Rattle.std.specs.Prelude.{ℕ, zero, suc, ◌+◌, ◌/◌, ◌%◌, ◌≡◌, List, [], ◌∷◌, ◌++◌, Bool, true, false, cond, length, take, drop, replicate, ltb}
 
 -- the places of a column

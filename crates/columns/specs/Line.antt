@@ -1,4 +1,4 @@
--- Lines made of columns: byte 10 is after each line, and a refused line prints status only.
+-- Lines made of columns (docs/ROW_FILES.md): byte 10 is after each line, and a refused line prints status only.
 use Rattle.std.specs.Prelude.{ℕ, ◌*◌, List, [], ◌∷◌, ◌++◌, false, take, drop}
 use Rattle.columns.specs.Column.{width, column}
 use Rattle.columns.specs.declared.forms.Form.{Form}

@@ -1,5 +1,5 @@
--- The value that a word stands for: a float as its 64-bit pattern, a yes as 1, a no as 0. A float is `of_bits` of its word: any pattern of a NaN is read,
--- and `to_bits` writes one.
+-- The value that a word stands for (docs/ROW_FILES.md): a float as its 64-bit pattern, a yes as 1, a no as 0. A float is `of_bits` of its word: any pattern
+-- of a NaN is read, and `to_bits` writes one.
 use Rattle.std.specs.Prelude.{ℕ, ◌-◌, Bool, cond, ltb, ℤ, pos, negsuc}
 
 abbrev pub yes_no_word : Bool → ℕ

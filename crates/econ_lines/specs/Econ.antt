@@ -1,4 +1,4 @@
--- Economizer lines: time first, then the record's fields in order; the answer is the status and the outputs in the order of
+-- Economizer lines (docs/ROW_FILES.md): time first, then the record's fields in order; the answer is the status and the outputs in the order of
 -- `ControllerTrace`, or the status alone.
 use Rattle.std.specs.Prelude.{ℕ, List, [], ◌∷◌, eqb, get_or}
 use Rattle.std.specs.Float.{binary64}
@@ -92,7 +92,7 @@ econ_kind = record {
   command_words = econ_command_words;
 }
 
--- the words of an answer: the number of a refusal alone
+-- the words of an answer: status 0 and the commands, or the number of a refusal alone
 abbrev pub econ_answer_words : EconomizerAnswer → List ℕ
 econ_answer_words = answer_words econ_kind
 

@@ -1,4 +1,4 @@
--- Freeze protection's lines: time first, then the record's fields in order; the answer is the status and the outputs in the order of
+-- Freeze protection's lines (docs/ROW_FILES.md): time first, then the record's fields in order; the answer is the status and the outputs in the order of
 -- the Rust trace, or the status alone.
 use Rattle.std.specs.Prelude.{ℕ, List, [], ◌∷◌, eqb, get_or}
 use Rattle.std.specs.Float.{binary64}
@@ -118,7 +118,7 @@ freeze_kind = record {
   command_words = freeze_command_words;
 }
 
--- the words of an answer: the number of a refusal alone
+-- the words of an answer: status 0 and the commands, or the number of a refusal alone
 abbrev pub freeze_answer_words : FreezeAnswer → List ℕ
 freeze_answer_words = answer_words freeze_kind
 

@@ -1,4 +1,4 @@
--- A stream of bytes as lines, with byte 10 after each, and each answered from a state of any type Q.
+-- A stream of bytes as lines (docs/ROW_FILES.md), with byte 10 after each, and each answered from a state of any type Q.
 use Rattle.std.specs.Prelude.{ℕ, suc, ◌+◌, ◌-◌, ◌≤◌, ◌≡◌, List, [], ◌∷◌, ◌++◌, cond, length, take, drop, ltb, eqb}
 use Rattle.columns.specs.Line.{newline}
 use Rattle.columns.specs.Column.{Wrote}

@@ -1,5 +1,5 @@
--- A kind of rows as a table: the forms of its columns in and out, the words of a row made into its record and back, commands made into words, and what the
--- sequence says of a row. Each line of rows of a kind is answered by a line: the commands of an accepted row, or the number of a refusal.
+-- A kind of rows as a table (docs/ROW_FILES.md): the forms of its columns in and out, the words of a row made into its record and back, commands made into
+-- words, and what the sequence says of a row. Each line of rows of a kind is answered by a line: the commands of an accepted row, or the number of a refusal.
 use Rattle.std.specs.Prelude.{ℕ, ◌+◌, ◌*◌, ◌≤◌, ◌≡◌, List, [], ◌∷◌, Bool, cond, length, Result, Ok, Err}
 use Rattle.columns.specs.declared.forms.Form.{Form}
 use Rattle.columns.specs.declared.forms.Form.TheVariants.{Unsigned}

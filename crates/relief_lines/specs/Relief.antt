@@ -1,4 +1,4 @@
--- Relief lines: time first, then the record's fields in order, arrays by index; the answer is the status, the mean, four speeds and
+-- Relief lines (docs/ROW_FILES.md): time first, then the record's fields in order, arrays by index; the answer is the status, the mean, four speeds and
 -- four dampers, or the status alone.
 use Rattle.std.specs.Prelude.{ℕ, List, [], ◌∷◌, false, eqb, pos, get_or}
 use Rattle.std.specs.Float.{binary64}
@@ -107,7 +107,7 @@ relief_kind = record {
   command_words = relief_command_words;
 }
 
--- the words of an answer: the number of a refusal alone
+-- the words of an answer: status 0 and the commands, or the number of a refusal alone
 abbrev pub relief_answer_words : ReliefAnswer → List ℕ
 relief_answer_words = answer_words relief_kind
 

@@ -1,4 +1,4 @@
--- What the whole input gives: the first line names the kind, or the reader prints 6 and stops; each
+-- What the whole input gives (docs/ROW_FILES.md): the first line names the kind, or the reader prints 6 and stops; each
 -- line after it is answered; bytes after the last newline are one refused line. For any sequences: what a first line starts, and their answers to a line.
 use Rattle.std.specs.Prelude.{ℕ, List, [], ◌∷◌}
 use Rattle.columns.specs.Line.{status_line}

@@ -1,4 +1,4 @@
--- What a caller gets that feeds a row file chunk by chunk: the answers to its lines, however it is cut.
+-- What a caller gets that feeds a row file (docs/ROW_FILES.md) chunk by chunk: the answers to its lines, however it is cut.
 use Rattle.std.specs.Prelude.{ℕ, ◌≤◌, ◌<◌, ◌≡◌, Bool, List, [], ◌∷◌, map, length, take, Float}
 use Rattle.columns.specs.Column.{Wrote}
 use Rattle.line_stream.specs.Lines.{whole}

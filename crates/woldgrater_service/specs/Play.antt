@@ -1,4 +1,4 @@
--- What a caller gets that hands in a whole row file: the answers to its lines, and what is said at its end.
+-- What a caller gets that hands in a whole row file (docs/ROW_FILES.md): the answers to its lines, and what is said at its end.
 use Rattle.std.specs.Prelude.{ℕ, ◌+◌, ◌*◌, ◌-◌, ◌^◌, ◌≤◌, ◌<◌, ◌≡◌, List, length}
 use Rattle.columns.specs.Column.{Wrote}
 use Rattle.row_kinds.specs.Rows.{rows_output}
