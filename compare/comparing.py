@@ -21,8 +21,14 @@ from tables.columns import KINDS, WIDTH
 from tables.fields import from_column
 
 
-# The Rust's own rows of each kind, by the names that the reference knows them by.
-SCENARIOS = {'freeze': ['freeze', 'fine_step'], 'relief': ['relief'], 'econ': ['econ']}
+# Freeze protection in the start in which stage 2 keeps to its hour is played beside the kinds. A program is then called
+# with this word.
+KEEP_HOUR = 'keep-hour'
+PLAYED = [*KINDS, KEEP_HOUR]
+
+# The Rust's own rows of each, by the names that the reference knows them by.
+SCENARIOS = {'freeze': ['freeze', 'fine_step'], 'relief': ['relief'], 'econ': ['econ'],
+             KEEP_HOUR: ['freeze', 'fine_step']}
 
 
 def scenario(name):
@@ -30,7 +36,7 @@ def scenario(name):
     return [REFERENCE, 'scenario', name]
 
 
-def arguments(name, number_name, number, words):
+def arguments(name, number_name, number, words, kinds=KINDS):
     """The command line of run, speed and instructions: PROGRAM, a number that may be left out, kinds."""
     if not words:
         sys.exit(f'usage: compare/{name} PROGRAM [{number_name}] [KIND..]')
@@ -40,18 +46,18 @@ def arguments(name, number_name, number, words):
         path = shutil.which(program)
     if path is None or os.path.isdir(path) or not os.access(path, os.X_OK):
         sys.exit(f'compare/{name}: not a program: {program}')
-    if rest and rest[0] not in KINDS:
+    if rest and rest[0] not in kinds:
         word = rest.pop(0)
         if not re.fullmatch('[1-9][0-9]{0,8}', word):
             sys.exit(f'compare/{name}: not a number for {number_name}: {word}')
         number = int(word)
     for kind in rest:
-        if kind not in KINDS:
+        if kind not in kinds:
             sys.exit(f'compare/{name}: no such kind: {kind}')
     if stale(path):
         print(f'compare/{name}: warning: {program} is older than the code below crates/ (tools/build rows makes it anew)',
               file=sys.stderr)
-    return path, number, rest or KINDS
+    return path, number, rest or kinds
 
 
 def stale(program):

@@ -1,8 +1,11 @@
 //! Counts events in row files, so that a generator that never makes one of them is found out.
 //! The signals come from the trace functions themselves: compare/extract makes them call `see`.
+//! A freeze file is also played in the start in which stage 2 keeps to its hour; events there come
+//! from the model and are counted as a kind of their own, keep-hour.
 
 pub mod econ;
 pub mod freeze;
+pub mod keep_hour;
 mod refused;
 pub mod relief;
 
@@ -63,10 +66,12 @@ impl Counts {
 pub fn count(files: &[&str]) -> Result<Vec<u8>, String> {
     let mut any = Counts::new("any");
     let mut kinds = ["freeze", "relief", "econ"].map(Counts::new);
+    let mut keep_hour = Counts::new("keep-hour");
     for file in files {
-        let text = std::fs::read(file).map_err(|error| format!("{file}: {error}"))?;
+        let told = |error| format!("{file}: {error}");
+        let text = std::fs::read(file).map_err(told)?;
         let mut answers = Vec::new();
-        crate::answer(&text[..], &mut answers).map_err(|error| format!("{file}: {error}"))?;
+        crate::answer(&text[..], &mut answers, crate::freeze::answer).map_err(told)?;
 
         let end = text.iter().position(|&byte| byte == b'\n');
         let (first, rest) = text.split_at(end.map_or(text.len(), |end| end + 1));
@@ -82,14 +87,20 @@ pub fn count(files: &[&str]) -> Result<Vec<u8>, String> {
         if let Some(counts) = kinds.iter_mut().find(named) {
             refused::count(counts, rest, &answers);
             match counts.kind {
-                "freeze" => freeze::count(counts),
+                "freeze" => {
+                    let mut kept = Vec::new();
+                    crate::answer(&text[..], &mut kept, crate::keep_hour::answer).map_err(told)?;
+                    refused::count(&mut keep_hour, rest, &kept);
+                    keep_hour::count(&mut keep_hour, &freeze::stages());
+                    freeze::count(counts);
+                }
                 "relief" => relief::count(counts),
                 _ => econ::count(counts),
             }
         }
     }
     let mut out = String::new();
-    for counts in [any].iter().chain(&kinds) {
+    for counts in [&any].into_iter().chain(&kinds).chain([&keep_hour]) {
         for (event, count) in &counts.events {
             out += &format!("{}\t{event}\t{count}\n", counts.kind);
         }

@@ -4,6 +4,8 @@
 //!                                        and damaged lines in some; ROWS is the length of the plan
 //!     generate KIND clean ROWS [SEED]    ROWS well-formed rows that are all accepted
 //!     generate relief dense ROWS [SEED]  the same, with 500 points in the window
+//!
+//! Files of the kind keep-hour are freeze files, for the start in which stage 2 keeps to its hour.
 
 #[path = "generate/cells.rs"]
 mod cells;
@@ -33,7 +35,7 @@ use random::Random;
 const USAGE: &str = "usage: generate KIND SEED [ROWS]
        generate KIND clean ROWS [SEED]
        generate relief dense ROWS [SEED]
-KIND is freeze, relief or econ; SEED and ROWS are whole numbers, ROWS from 1 to 10000000";
+KIND is freeze, relief, econ or keep-hour; SEED and ROWS are whole numbers, ROWS from 1 to 10000000";
 
 fn main() -> ExitCode {
     let arguments: Vec<String> = std::env::args_os()
@@ -57,7 +59,7 @@ fn main() -> ExitCode {
 
 fn file(words: &[&str]) -> Result<Vec<u8>, String> {
     let (&kind, rest) = words.split_first().ok_or(USAGE)?;
-    if !["freeze", "relief", "econ"].contains(&kind) {
+    if !["freeze", "relief", "econ", "keep-hour"].contains(&kind) {
         return Err(format!("no such kind: {kind}\n{USAGE}"));
     }
     match *rest {
@@ -89,11 +91,11 @@ fn rows(word: &str) -> Result<usize, String> {
 fn clean(kind: &str, count: usize, seed: u64, relief_gap: f64) -> Result<Vec<u8>, String> {
     let mut random = Random::new(seed);
     let rows = match kind {
-        "freeze" => freeze::clean(&mut random, count),
+        "freeze" | "keep-hour" => freeze::clean(&mut random, count),
         "relief" => relief::clean(&mut random, count, relief_gap),
         _ => econ::clean(&mut random, count),
     };
-    let mut file = format!("{kind}\n").into_bytes();
+    let mut file = format!("{}\n", word(kind)).into_bytes();
     for row in rows {
         file.extend(line(&row));
         file.push(b'\n');
@@ -117,6 +119,7 @@ fn played(kind: &str, seed: u64, count: Option<usize>) -> Vec<u8> {
     use Between::*;
     let plans = match kind {
         "freeze" => freeze::PLANS,
+        "keep-hour" => freeze::KEEP_HOUR_PLANS,
         "relief" => relief::PLANS,
         _ => econ::PLANS,
     };
@@ -149,10 +152,15 @@ fn played(kind: &str, seed: u64, count: Option<usize>) -> Vec<u8> {
 
 fn first_line(random: &mut Random, kind: &str, between: Between) -> Vec<u8> {
     if between == Between::Damage && random.one_in(6) {
-        damage::damaged_first_line(random, kind)
+        damage::damaged_first_line(random, word(kind))
     } else {
-        format!("{kind}\n").into_bytes()
+        format!("{}\n", word(kind)).into_bytes()
     }
+}
+
+/// The first line of a file of this kind.
+fn word(kind: &str) -> &str {
+    if kind == "keep-hour" { "freeze" } else { kind }
 }
 
 fn put_between(random: &mut Random, between: Between, row: &Row) -> Vec<u8> {

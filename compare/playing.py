@@ -17,8 +17,9 @@ SECONDS = 60     # longer than a program needs for any of the files
 PIECES = [1, 20, 21, 252, 253, 4000, 4096, 30000, 65536]
 NO_END = f'did not end within {SECONDS} s'
 
-# A row file to play: its kind, what it is called, the command that prints it, and the seed of its pieces.
-File = namedtuple('File', 'kind name command seed')
+# A row file to play: its kind, what it is called, the command that prints it, the words that programs are called with,
+# and the seed of its pieces.
+File = namedtuple('File', 'kind name command words seed')
 
 # A difference: answer line and column, counted from 0, and the two lines, None where there is none.
 Place = namedtuple('Place', 'index column expected got')
@@ -30,13 +31,13 @@ def hand_over(pipe, piece):
         piece = piece[pipe.write(piece):]
 
 
-def answers(program, path, seed=0):
-    """What the program prints for the rows of a file, and how it ended where that was not well.
-    Every fourth seed hands the rows over in pieces of many sizes."""
+def answers(program, path, words=(), seed=0):
+    """What the program, called with these words, prints for the rows of a file, and how it ended where that was
+    not well. Every fourth seed hands the rows over in pieces of many sizes."""
     pieces = random.Random(seed) if seed % 4 == 3 else None
     with open(path, 'rb') as rows, tempfile.TemporaryFile() as out:
         try:
-            process = subprocess.Popen([program], stdin=subprocess.PIPE if pieces else rows, stdout=out,
+            process = subprocess.Popen([program, *words], stdin=subprocess.PIPE if pieces else rows, stdout=out,
                                        bufsize=0, start_new_session=True)
         except OSError as error:
             return b'', f'cannot be run: {error}'
@@ -57,12 +58,12 @@ def answers(program, path, seed=0):
         return out.read(), status and f'ended with status {status}'
 
 
-def play(program, path, seed=0):
+def play(program, path, words=(), seed=0):
     """What goes wrong with this file: a Place, a sentence, or None."""
-    expected, wrong = answers(REFERENCE, path)
+    expected, wrong = answers(REFERENCE, path, words)
     if wrong:
         return f'the reference {wrong}'
-    got, wrong = answers(program, path, seed)
+    got, wrong = answers(program, path, words, seed)
     if wrong:
         return f'the program {wrong}'
     found = comparing.difference(expected, got)
@@ -79,7 +80,7 @@ class Difference:
 
     def __init__(self, program, file, path, found, seconds=20):
         self.program, self.file, self.found = program, file, found
-        self.kind, self.seed = file.kind, file.seed
+        self.kind, self.seed = 'freeze' if file.words else file.kind, file.seed     # keep-hour has freeze rows
         self.saved = os.path.join(TARGET, 'difference.rows')
         with open(path, 'rb') as rows:
             self.lines = rows.read().splitlines(keepends=True)
@@ -97,11 +98,11 @@ class Difference:
     def wrong(self, lines):
         with open(self.saved, 'wb') as rows:
             rows.writelines(lines)
-        return play(self.program, self.saved, self.seed)
+        return play(self.program, self.saved, self.file.words, self.seed)
 
     def show(self):
         found = self.found if isinstance(self.found, str) else f'answer line {self.found.index + 1} differs'
-        print(f'first difference: {self.kind}, {self.file.name}: {found}')
+        print(f'first difference: {self.file.kind}, {self.file.name}: {found}')
         pieces = ', handed over in pieces' if self.seed % 4 == 3 else ''
         saved = os.path.relpath(self.saved)
         print(f'  the input, cut down to {len(self.lines)} lines{pieces}, is in {saved}')

@@ -1,6 +1,8 @@
 //! The reference program: the published trace functions behind the row lines of document 01.
 //!
 //!     reference < ROWS > ANSWERS      the lines that `rows` must print
+//!     reference keep-hour < ROWS      the lines that `rows keep-hour` must print: those of freeze protection from
+//!                                     a model whose stage 2 keeps to its hour
 //!     reference scenario NAME         the rows of the Rust's own scenario, as a row file
 //!     reference blocks                the lines that `replay_blocks` must print
 //!     events count FILE..             how often each kind of event occurs in these row files
@@ -59,10 +61,11 @@ use std::process::ExitCode;
 
 use input::Input;
 use sequences::economizer_controller::econ;
-use sequences::freeze_protection::freeze;
+use sequences::freeze_protection::{freeze, keep_hour};
 use sequences::relief_fan_group::relief;
 
 const USAGE: &str = "usage: reference < ROWS > ANSWERS
+       reference keep-hour < ROWS > ANSWERS
        reference scenario freeze|fine_step|relief|econ
        reference blocks";
 
@@ -83,10 +86,8 @@ fn main() -> ExitCode {
 
 fn run(words: &[&str]) -> Result<(), String> {
     match words {
-        [] => {
-            let played = answer(io::stdin().lock(), &mut io::stdout().lock());
-            played.map_err(|error| format!("cannot read or write: {error}"))
-        }
+        [] => play(freeze::answer),
+        ["keep-hour"] => play(keep_hour::answer),
         ["scenario", "freeze"] => print(&freeze::staged_scenario()),
         ["scenario", "fine_step"] => print(&freeze::fine_step_scenario()),
         ["scenario", "relief"] => print(&relief::scenario()),
@@ -109,13 +110,23 @@ fn print(text: &[u8]) -> Result<(), String> {
     written.map_err(|error| format!("cannot write: {error}"))
 }
 
-/// Answers a whole row file.
-fn answer(rows: impl Read, out: &mut impl Write) -> io::Result<()> {
-    let mut input = Input::new(rows);
-    // No kind has more letters than `freeze` and `relief`.
-    while input.text().len() < 7 && input.more()? {}
+/// Answers standard input, whose freeze rows are answered by `freeze`.
+fn play(
+    freeze: fn(&mut Input<io::StdinLock<'static>>, &mut io::StdoutLock<'static>) -> io::Result<()>,
+) -> Result<(), String> {
+    let played = answer(io::stdin().lock(), &mut io::stdout().lock(), freeze);
+    played.map_err(|error| format!("cannot read or write: {error}"))
+}
+
+/// Answers a whole row file, whose freeze rows are answered by `freeze`.
+fn answer<Source: Read, Out: Write>(
+    rows: Source,
+    out: &mut Out,
+    freeze: fn(&mut Input<Source>, &mut Out) -> io::Result<()>,
+) -> io::Result<()> {
+    let mut input = first_line(rows)?;
     if take(&mut input, b"freeze\n") {
-        freeze::answer(&mut input, out)?;
+        freeze(&mut input, out)?;
     } else if take(&mut input, b"relief\n") {
         relief::answer(&mut input, out)?;
     } else if take(&mut input, b"econ\n") {
@@ -132,8 +143,7 @@ fn answer(rows: impl Read, out: &mut impl Write) -> io::Result<()> {
 /// Measures the calls on a row file.
 #[cfg(calls)]
 fn measure(rows: impl Read) -> io::Result<String> {
-    let mut input = Input::new(rows);
-    while input.text().len() < 7 && input.more()? {}
+    let mut input = first_line(rows)?;
     if take(&mut input, b"freeze\n") {
         freeze::measure(&mut input)
     } else if take(&mut input, b"relief\n") {
@@ -143,6 +153,14 @@ fn measure(rows: impl Read) -> io::Result<String> {
     } else {
         Err(io::Error::other("the first line names no kind"))
     }
+}
+
+/// A row file, read as far as the kind.
+fn first_line<Source: Read>(rows: Source) -> io::Result<Input<Source>> {
+    let mut input = Input::new(rows);
+    // No kind has more letters than `freeze` and `relief`.
+    while input.text().len() < 7 && input.more()? {}
+    Ok(input)
 }
 
 fn take(input: &mut Input<impl Read>, first_line: &[u8]) -> bool {

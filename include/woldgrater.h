@@ -16,8 +16,8 @@
  * - The stack has room for the call, as WOLDGRATER_STACK_* say below, besides the caller's own structs.
  * - The floating-point unit is set as a C program starts with it: rounding to nearest, subnormal numbers kept (no flush to zero, so
  *   nothing linked with -ffast-math), exceptions masked. Else the answers may be other ones, or the processor may trap.
- * - A state is kept for the library of one WOLDGRATER_VERSION_MAJOR: another may lay its words out otherwise (of 3 and 4 those of
- *   freeze protection and of the economizer are the same, those of the relief fan group and of the row reader are not).
+ * - A state is kept for the library of one WOLDGRATER_VERSION_MAJOR: another may lay its words out otherwise (of 4 and 5 those of
+ *   the economizer and of the relief fan group are the same, those of freeze protection and of the row reader are not).
  */
 #ifndef WOLDGRATER_H
 #define WOLDGRATER_H
@@ -30,7 +30,7 @@ extern "C" {
 #endif
 
 /* Major, minor: the minor grows with what is added, the major where a state or a struct is laid out anew. */
-#define WOLDGRATER_VERSION_MAJOR 4
+#define WOLDGRATER_VERSION_MAJOR 5
 #define WOLDGRATER_VERSION_MINOR 0
 
 /* Statuses. 0: accepted. The others are refusals: a refused row hands the old state back (the same words, where a call gave them; of
@@ -73,7 +73,7 @@ struct woldgrater_timer_output {
 /* Freeze protection. */
 
 struct woldgrater_freeze_state {
-    uint64_t words[68];
+    uint64_t words[69];
 };
 
 /* A sampled row: its time in seconds, and Inputs. Temperatures in kelvin, positions and speeds from 0 to 1. */
@@ -139,7 +139,8 @@ struct woldgrater_freeze_signals {
 };
 
 /* The seconds left until each timer passes: tim calls stage 1, tim1 ends it, tim2 and its hold begin stage 2, tim3
- * or tim4 calls stage 3, and tim5 ends stage 2. A timer whose input is off has its whole time left. */
+ * or tim4 calls stage 3, and tim5 ends stage 2. A timer whose input is off has its whole time left; where stage 2
+ * keeps to its hour, tim5 runs on, and has its whole time left until the hold first comes on. */
 struct woldgrater_freeze_left {
     double tim;
     double tim1;
@@ -363,7 +364,7 @@ struct woldgrater_line_given {
 /* Row files. */
 
 struct woldgrater_state {
-    uint64_t words[266];
+    uint64_t words[267];
 };
 
 /* The same, and 1 where the reader has stopped: it reads no more. */
@@ -378,22 +379,28 @@ struct woldgrater_fed {
  *
  * Start a sequence, then hand each row the state that the call before gave, and keep what it gives:
  *
- *     struct woldgrater_freeze_state state = woldgrater_freeze_start();
+ *     struct woldgrater_freeze_state state = woldgrater_freeze_start(0);
  *     for each sample:
  *         struct woldgrater_freeze_given given = woldgrater_freeze_row(state, row);
  *         state = given.state;
  *         if (given.status == WOLDGRATER_ACCEPTED) use given.commands
  *
+ * woldgrater_freeze_start(0) starts freeze protection as the published Rust does: stage 2 may stand for good (docs/ANSWERS.md, question 2).
+ * With any other word stage 2 keeps to its hour, as Guideline 36 has it: on the first row that is 3600 s or more after the hold last came
+ * on it hands over to stage 1, or to 0 where the supply air has recovered on that row. The state carries the manner; row and signals
+ * are the same calls.
+ *
  * KIND_signals gives what the commands of that row would be worked from, and moves nothing: thresholds, timers, latches and the stage
  * (freeze); enable and delays (economizer); pulses and latches (relief). Each timer of freeze protection and of the relief fan group has
  * its mark and its elapsed seconds there, 0 where its input is off or has just come on, and in `left` the seconds until it passes, 0 once
  * it has. While the input stays on it passes at the first row that much later: exactly so for times in whole seconds, else but for the
- * rounding of a difference of times (docs/FIRMWARE.md). A relief caller lends the two arrays of its window, which woldgrater_relief_start
+ * rounding of a difference of times (docs/FIRMWARE.md). Where stage 2 keeps to its hour, tim5 alone counts on when its input goes off,
+ * from the row at which it last came on. A relief caller lends the two arrays of its window, which woldgrater_relief_start
  * sets to 0 and woldgrater_relief_row changes; a caller that goes back to an earlier state puts the arrays back with it.
  *
  * A relief state remembers the alarms of the last accepted row in a byte each: woldgrater_relief_alarm gives that of a fan, by its index
  * from 0 to 3, 0 before any row; for an index above 3 known is 0. */
-struct woldgrater_freeze_state woldgrater_freeze_start(void);
+struct woldgrater_freeze_state woldgrater_freeze_start(uint64_t keeps_hour);
 struct woldgrater_freeze_given woldgrater_freeze_row(struct woldgrater_freeze_state state, struct woldgrater_freeze_row row);
 struct woldgrater_freeze_shown woldgrater_freeze_signals(struct woldgrater_freeze_state state, struct woldgrater_freeze_row row);
 

@@ -1,5 +1,6 @@
 """The cases of document 01 that a row file can show, as tables, the shortest lists that miss a relief
-stage, and alarms that do not fit a signed byte (document 02, job 10).
+stage, and alarms that do not fit a signed byte (document 02, job 10); and cases of freeze protection in the
+start in which stage 2 keeps to its hour (document 02, job 4).
 
 Fields stand before the bar, what the answer must hold after it; fields that a table does not name
 have the values of DEFAULTS. A dash is not looked at. R4 and the panic of E4 are tests in
@@ -289,5 +290,109 @@ CASES = [
         299   277    0     | 0      0
         298   290    0     | 3      -
         300   277    0     | 0      1
+    '''),
+]
+
+# In the start in which stage 2 keeps to its hour.
+KEEP_HOUR_CASES = [
+    ('F5 stage 1 follows on the row on which the hold drops', '''
+        time  supply | stage
+        0     276    | 0
+        300   276    | 2
+        360   278    | 2
+        3900  278    | 1
+        86400 278    | 1
+    '''),
+    ('one step before the hour is over stage 2 stands', '''
+        time         supply | stage
+        0            276    | 0
+        300          276    | 2
+        360          278    | 2
+        3900-2**-41  278    | 2
+        3900         278    | 1
+    '''),
+    ('F6 the hour passes while it is cold', '''
+        time supply | stage
+        0    276    | 0
+        300  276    | 2
+        360  278    | 2
+        3540 276    | 2
+        3900 276    | 1
+    '''),
+    ('the hour passes while the hold stands by rounding', '''
+        time   supply | stage
+        0      276    | 0
+        300.1  276    | 2
+        300.3  278    | 2
+        3900.1 278    | 1
+    '''),
+    ('recovery on the end-of-hour row: the clear wins', '''
+        time supply | stage
+        0    276    | 0
+        300  276    | 2
+        3600 281    | 2
+        3900 281    | 0
+    '''),
+    ('a hold that drops by rounding before its hour is over', '''
+        time   supply | stage
+        0      276    | 0
+        496.4  276    | 2
+        496.6  278    | 2
+        4096.4 278    | 2
+        4096.5 278    | 1
+    '''),
+    ('a hold on again on the row that would end its hour starts it anew', '''
+        time   supply | stage
+        0      276    | 0
+        496.4  276    | 2
+        496.6  278    | 2
+        4096.4 276    | 2
+        4396.4 276    | 2
+        7996.3 278    | 2
+        7996.4 278    | 1
+    '''),
+    ('a hold on again after its hour is stage 2 anew', '''
+        time supply | stage
+        0    276    | 0
+        300  276    | 2
+        360  278    | 2
+        3900 278    | 1
+        4000 276    | 1
+        4300 276    | 2
+        4360 278    | 2
+        7900 278    | 1
+    '''),
+    ('an hour ends once while the hold goes on', '''
+        time supply reset | stage
+        0    276    0     | 0
+        300  276    1     | 2
+        900  276    1     | 2
+        3900 276    0     | 1
+        7500 276    0     | 1
+        7560 281    0     | 1
+        7860 281    0     | 0
+    '''),
+    ('stage 3 stands on the end-of-hour row, and after it a reset gives stage 1', '''
+        time supply reset | stage
+        0    273    0     | 0
+        300  273    0     | 3
+        3900 273    0     | 3
+        3960 273    1     | 1
+    '''),
+    ('a refused row is not the end of an hour', '''
+        time supply | status stage
+        0    276    | 0      0
+        300  276    | 0      2
+        360  278    | 0      2
+        3900 nan    | 1      -
+        3960 278    | 0      1
+    '''),
+    ('the commands of stages 2 and 1, and after a recovery', '''
+        time supply | stage pump back out  min_out fan speed cool heat water alarm
+        0    276    | 0     0    0.73 0.62 0.17    1   0.58  0.44 0.31 0     0
+        300  276    | 2     0    1    0    0       1   0.58  0.44 -    2     3
+        3900 278    | 1     0    0.73 0.2  0.17    1   0.58  0.44 -    2     0
+        3960 281    | 1     0    0.73 0.2  0.17    1   0.58  0.44 -    2     0
+        4260 281    | 0     0    0.73 0.62 0.17    1   0.58  0.44 0.31 0     0
     '''),
 ]

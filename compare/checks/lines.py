@@ -1,6 +1,7 @@
 """The reference's row reader: document 01, 'Row lines' and the refusals 5 and 6."""
 
 from checks.report import answers, expect, statuses
+from comparing import KEEP_HOUR
 from tables.columns import KINDS
 
 KIND = b'econ\n'
@@ -79,6 +80,10 @@ def check_lines():
         expect(f'6 for {name}', answers(text), SIX)
     for kind in KINDS:
         expect(f'nothing for {kind} alone', answers(kind.encode() + b'\n'), b'')
+    for name, text in FIRST_LINES:
+        expect(f'{KEEP_HOUR}: 6 for {name}', answers(text, KEEP_HOUR), SIX)
+    expect(f'{KEEP_HOUR}: nothing for freeze alone', answers(b'freeze\n', KEEP_HOUR), b'')
+    expect(f'{KEEP_HOUR}: economizer rows as without', answers(KIND + ROW, KEEP_HOUR), ANSWER)
     for name, line in BADLY_FORMED:
         expect(f'5 for {name}, and the next line is read', answers(KIND + line + ROW), FIVE + ANSWER)
     expect('5 for a missing last newline', answers(KIND + ROW + ROW[:-1]), ANSWER + FIVE)

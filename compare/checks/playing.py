@@ -1,9 +1,9 @@
-"""Plays the cases of document 01."""
+"""Plays the cases of document 01, and those of the start in which stage 2 keeps to its hour."""
 
 import math
 
 import comparing
-from checks.cases import CASES, DEFAULTS, NAMES
+from checks.cases import CASES, DEFAULTS, KEEP_HOUR_CASES, NAMES
 from checks.report import answers, check, expect, statuses
 from tables.columns import ANSWERS, ROWS
 from tables.files import write_rows
@@ -37,15 +37,22 @@ def records(kind, text):
             for line in text.splitlines()]
 
 
+def check_case(name, kind, text, *words):
+    """A table, played by the reference that is called with these words."""
+    rows, expected = table(kind, text)
+    got = records(kind, answers(row_file(kind, rows), *words))
+    faults = [] if len(got) == len(rows) else [f'{len(got)} answers to {len(rows)} rows']
+    for row, (wanted, answer) in enumerate(zip(expected, got)):
+        faults += [f'row {row}: {output} is {answer.get(output)!r}, expected {wanted[output]!r}'
+                   for output in wanted if answer.get(output) != wanted[output]]
+    check(name, '; '.join(faults))
+
+
 def check_cases():
     for name, kind, text in CASES:
-        rows, expected = table(kind, text)
-        got = records(kind, answers(row_file(kind, rows)))
-        faults = [] if len(got) == len(rows) else [f'{len(got)} answers to {len(rows)} rows']
-        for row, (wanted, answer) in enumerate(zip(expected, got)):
-            faults += [f'row {row}: {output} is {answer.get(output)!r}, expected {wanted[output]!r}'
-                       for output in wanted if answer.get(output) != wanted[output]]
-        check(name, '; '.join(faults))
+        check_case(name, kind, text)
+    for name, text in KEEP_HOUR_CASES:
+        check_case(f'{comparing.KEEP_HOUR}: {name}', 'freeze', text, comparing.KEEP_HOUR)
     check_f7()
     check_r5()
     check_alarms_in_a_full_window()

@@ -8,13 +8,13 @@ import tempfile
 
 import comparing
 from checks.report import answers, check, script
-from comparing import COMPARE, GENERATE, REFERENCE, ROOT, SCENARIOS, TARGET
+from comparing import COMPARE, GENERATE, KINDS, REFERENCE, ROOT, SCENARIOS, TARGET
 
 SEQUENCES = 'docs/src/tools/golden-gen/src/sequences'
 
 
 def check_scenarios():
-    for scenario in sum(SCENARIOS.values(), []):
+    for scenario in sum((SCENARIOS[kind] for kind in KINDS), []):
         rows, published = (subprocess.run(words, stdout=subprocess.PIPE, check=True).stdout for words in (
             comparing.scenario(scenario), [os.path.join(TARGET, 'published'), scenario]))
         got = answers(rows)
@@ -101,7 +101,8 @@ def refuses(name, words, **streams):
 
 
 def check_command_lines():
-    for words in ('nonsense', 'scenario', 'scenario nothing', 'scenario freeze more', 'blocks more', 'count'):
+    for words in ('nonsense', 'scenario', 'scenario nothing', 'scenario freeze more', 'blocks more', 'keep-hour more',
+                  'count'):
         refuses(f'reference {words}', [REFERENCE, *words.split()])
     for words in ('', 'freeze', 'nothing 1', 'freeze x', 'freeze -1', 'freeze 1.5', 'freeze 1 0',
                   'freeze 1 x', 'freeze 1 2 3', 'freeze clean', 'freeze clean 0', 'freeze dense 5',

@@ -23,9 +23,9 @@ def expect(name, got, expected):
     check(name, '' if got == expected else f'expected {expected!r}, got {got!r}')
 
 
-def answers(text):
-    """The reference's answers to a row file."""
-    return subprocess.run([REFERENCE], input=text, stdout=subprocess.PIPE, check=True).stdout
+def answers(text, *words):
+    """The answers to a row file of the reference, called with these words."""
+    return subprocess.run([REFERENCE, *words], input=text, stdout=subprocess.PIPE, check=True).stdout
 
 
 def statuses(text):

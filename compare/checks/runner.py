@@ -9,7 +9,7 @@ import time
 from checks.report import check, script
 from comparing import COMPARE, REFERENCE, SCENARIOS
 
-# Programs that change the reference's output or input, by the kind of rows on which they show: what comes after
+# Programs that change the reference's output, input or words, by the kind of rows on which they show: what comes after
 # `reference` in a shell.
 WRONG = {
     'freeze': [
@@ -28,6 +28,9 @@ WRONG = {
         ('4 in the place of 11', "| sed -E 's/^ {19}11$/                    4/'"),
         ('an alarm of 258 cut to 8 bits and taken', "< <(LC_ALL=C sed -E 's/ {18}258/                    2/g')"),
     ],
+    'keep-hour': [
+        ('the published start in the place of the other', ''),
+    ],
 }
 
 
@@ -36,7 +39,7 @@ def start(program, rounds, kind):
                             stdout=subprocess.PIPE, text=True)
 
 
-def play(folder, kind, rounds, change=''):
+def play(folder, kind, rounds, change='"$@"'):
     program = os.path.join(folder, 'program')
     script(program, f'#!/bin/bash\n"{REFERENCE}" {change}\n')
     runner = start(program, rounds, kind)

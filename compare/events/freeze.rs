@@ -35,6 +35,11 @@ pub fn see(signals: Signals) {
     SEEN.with_borrow_mut(|seen| seen.push(signals));
 }
 
+/// The stages of the rows seen.
+pub fn stages() -> Vec<i64> {
+    SEEN.with_borrow(|seen| seen.iter().map(|row| row.stage).collect())
+}
+
 pub fn count(counts: &mut Counts) {
     let seen = SEEN.take();
     let times: Vec<f64> = seen.iter().map(|row| row.t).collect();

@@ -27,7 +27,7 @@ const SORTS: [&str; 18] = [
 pub fn count(counts: &mut Counts, text: &[u8], answers: &[u8]) {
     // The columns of each kind: float, flag, signed.
     let columns = match counts.kind {
-        "freeze" => "fffffffbbfff",
+        "freeze" | "keep-hour" => "fffffffbbfff",
         "relief" => "fbbfssssbbbb",
         _ => "fffffbss",
     };

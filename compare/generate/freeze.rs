@@ -8,6 +8,11 @@ pub const PLANS: &[fn(&mut Random, Option<usize>) -> Vec<Row>] = &[
     winter, edges, ladder, bands, hour, fine_step, overflow, spans_plan,
 ];
 
+/// For the start in which stage 2 keeps to its hour.
+pub const KEEP_HOUR_PLANS: &[fn(&mut Random, Option<usize>) -> Vec<Row>] = &[
+    winter, edges, ladder, bands, hour, hours, hours, fine_step, overflow, spans_plan,
+];
+
 const DELAYS: [f64; 3] = [300.0, 900.0, 3600.0];
 
 struct Rows {
@@ -230,6 +235,37 @@ fn hour(random: &mut Random, rows: Option<usize>) -> Vec<Row> {
     let mut clock = Clock::at(end);
     out.push(clock.step(random.range(0.0, 400.0)), last, false);
     out.push(clock.step(300.0), random.pick(&[276.0, 281.0]), false);
+    out.rows
+}
+
+/// Hours one after another in uneven steps, from a start near 0. At the end of each it has been
+/// cold again for less than 300 s, so that a hold that drops there comes on again soon after. In
+/// the first one the sum of the gaps and the difference of the times mostly part: the hold drops
+/// before the hour is over, or stands. Now and then rows follow the end by a few steps.
+fn hours(random: &mut Random, rows: Option<usize>) -> Vec<Row> {
+    let mut out = Rows::new(random);
+    let begin = random.unit() * random.pick(&[1.0, 30.0, 600.0]);
+    out.push(begin, 276.0, false);
+    let count = rows.unwrap_or(random.between(10, 120));
+    let mut passed = begin + 300.0;
+    while out.rows.len() < count {
+        let again = random.pick(&[0.0, 100.0, 299.0, 299.9]);
+        let middle = random.between(1, 12);
+        let times = parted(random, passed, 3600.0, middle, &[again]);
+        let (on, end) = (times[0], times[times.len() - 1]);
+        for time in times {
+            out.wander(random);
+            let cold = time == on || time >= end - again;
+            out.push(time, if cold { 276.0 } else { 278.0 }, random.one_in(40));
+        }
+        let mut time = end;
+        for _ in 0..random.pick(&[0, 0, 1, 3]) {
+            time = time.next_up();
+            out.push(time, random.pick(&[276.0, 276.0, 278.0, 281.0]), false);
+        }
+        passed = end - again + 300.0;
+    }
+    out.rows.truncate(count);
     out.rows
 }
 

@@ -14,7 +14,7 @@ use crate::marks;
 #[cfg(calls)]
 use crate::woldgrater as library;
 
-struct Freeze;
+pub(super) struct Freeze;
 
 impl Kind for Freeze {
     type Row = Inputs;

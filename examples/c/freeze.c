@@ -1,7 +1,8 @@
-/* Freeze protection a row at a time: prints the stage and the outdoor damper's command at each sample.
+/* Freeze protection a row at a time: prints the stage and the outdoor damper's command at each sample, from either start.
  *
- * It is case F5 of the tests: stage 2 stands although it is mild again, and a sample whose time falls is refused and changes nothing.
- * A controller does the same with its own samples; libwoldgrater.a alone is linked.
+ * It is case F5 of the tests. As published, stage 2 stands although it is mild again; where it keeps to its hour, stage 1 follows at
+ * 3900 s. A sample whose time falls is refused and changes nothing. A controller does the same with its own samples and one of the
+ * starts; libwoldgrater.a alone is linked.
  */
 #include <inttypes.h>
 #include <stdio.h>
@@ -40,10 +41,11 @@ static struct woldgrater_freeze_row row_of(struct sample sample)
     return row;
 }
 
-int main(void)
+static void play(uint64_t keeps_hour)
 {
     /* The answer is kept whole and its state handed on: a state that is kept apart would be copied once more a row. */
-    struct woldgrater_freeze_given given = { .state = woldgrater_freeze_start() };
+    struct woldgrater_freeze_given given = { .state = woldgrater_freeze_start(keeps_hour) };
+    printf("%s\n", keeps_hour ? "stage 2 keeps to its hour" : "as published");
     for (size_t i = 0; i < sizeof samples / sizeof *samples; i++) {
         given = woldgrater_freeze_row(given.state, row_of(samples[i]));
         printf("%4.0f s  %.0f K  ", samples[i].time, samples[i].supply);
@@ -53,5 +55,11 @@ int main(void)
         else
             printf("refused: %" PRIu64 "\n", given.status);
     }
+}
+
+int main(void)
+{
+    play(0);
+    play(1);
     return 0;
 }

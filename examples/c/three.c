@@ -78,7 +78,7 @@ static void print_commands(int n)
 int main(void)
 {
     struct woldgrater_freeze_shown shown = { 0 };
-    freeze.state = woldgrater_freeze_start();
+    freeze.state = woldgrater_freeze_start(0);
     econ.state = woldgrater_econ_start();
     relief.state = woldgrater_relief_start(times, integrals);
     for (int n = 0; n < ROWS; n++) {

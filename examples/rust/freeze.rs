@@ -1,6 +1,8 @@
-//! Freeze protection a row at a time: prints the stage and the outdoor damper's command at each sample, as examples/c/freeze.c does.
+//! Freeze protection a row at a time: prints the stage and the outdoor damper's command at each sample, from either start, as
+//! examples/c/freeze.c does.
 //!
-//! It is case F5 of the tests: stage 2 stands although it is mild again, and a sample whose time falls is refused and changes nothing.
+//! It is case F5 of the tests. As published, stage 2 stands although it is mild again; where it keeps to its hour, stage 1 follows at
+//! 3900 s. A sample whose time falls is refused and changes nothing.
 
 mod woldgrater;
 
@@ -27,8 +29,8 @@ fn row_of(time: f64, supply_air_temperature: f64) -> FreezeRow {
     }
 }
 
-fn main() {
-    let mut freeze = Freeze::start();
+fn play(title: &str, mut freeze: Freeze) {
+    println!("{title}");
     for (time, supply) in SAMPLES {
         print!("{time:4.0} s  {supply:.0} K  ");
         match freeze.row(row_of(time, supply)) {
@@ -38,4 +40,9 @@ fn main() {
             Err(status) => println!("refused: {status}"),
         }
     }
+}
+
+fn main() {
+    play("as published", Freeze::start());
+    play("stage 2 keeps to its hour", Freeze::start_keeping_hour());
 }

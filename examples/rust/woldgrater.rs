@@ -17,7 +17,7 @@ pub struct TimerOutput {
 #[repr(C)]
 #[derive(Clone, Copy)]
 pub struct FreezeState {
-    words: [u64; 68],
+    words: [u64; 69],
 }
 
 #[repr(C)]
@@ -322,7 +322,7 @@ pub struct LineGiven {
 #[repr(C)]
 #[derive(Clone, Copy)]
 pub struct State {
-    words: [u64; 266],
+    words: [u64; 267],
 }
 
 #[repr(C)]
@@ -335,7 +335,7 @@ pub struct Fed {
 // ---- end of the records
 
 unsafe extern "C" {
-    fn woldgrater_freeze_start() -> FreezeState;
+    fn woldgrater_freeze_start(keeps_hour: u64) -> FreezeState;
     fn woldgrater_freeze_row(state: FreezeState, row: FreezeRow) -> FreezeGiven;
     fn woldgrater_freeze_signals(state: FreezeState, row: FreezeRow) -> FreezeShown;
     fn woldgrater_freeze_line(row: FreezeRow, out: *mut u8, out_len: usize) -> LineGiven;
@@ -379,8 +379,14 @@ pub struct Freeze {
 }
 
 impl Freeze {
+    /// As the published Rust starts it.
     pub fn start() -> Self {
-        Freeze { state: unsafe { woldgrater_freeze_start() } }
+        Freeze { state: unsafe { woldgrater_freeze_start(0) } }
+    }
+
+    /// So that stage 2 keeps to its hour, and then hands over to stage 1.
+    pub fn start_keeping_hour() -> Self {
+        Freeze { state: unsafe { woldgrater_freeze_start(1) } }
     }
 
     /// The commands of an accepted row, or the status of a refused one, which changes nothing.

@@ -5,7 +5,7 @@
  *     calls KIND SEED N                plays N rows on forged states, whose words no call gave, checks each call, and prints one
  *                                      checksum of all that the calls gave
  *
- * KIND is freeze, relief or econ. The first check that fails is printed with the number of its row, and the program ends with 1.
+ * KIND is freeze, keep-hour (freeze rows, stage 2 keeps to its hour), relief or econ. The first check that fails is printed with the number of its row, and the program ends with 1.
  */
 #include <inttypes.h>
 #include <stdio.h>
@@ -174,7 +174,7 @@ static int play_rows(size_t n, FILE *rows, FILE *answers)
 {
     size_t counts[STATUSES] = { 0 };
     char text[LINE];
-    int bad = fprintf(rows, "%s\n", kind->name) < 0;
+    int bad = fprintf(rows, "%s\n", kind->file) < 0;
     kind->start();
     for (played = 0; played < n && !bad; played++) {
         size_t len;

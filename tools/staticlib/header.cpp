@@ -4,5 +4,5 @@
 int main()
 {
     struct woldgrater_freeze_row row = {};
-    return woldgrater_freeze_row(woldgrater_freeze_start(), row).status == WOLDGRATER_ACCEPTED ? 0 : 1;
+    return woldgrater_freeze_row(woldgrater_freeze_start(0), row).status == WOLDGRATER_ACCEPTED ? 0 : 1;
 }

@@ -63,16 +63,24 @@ static uint8_t *line;
         return woldgrater_##kind##_line(kind##_row(), line, room);                       \
     }
 
-CALLS(freeze, woldgrater_freeze_start(), woldgrater_freeze_row(freeze_state(), freeze_row()),
+CALLS(freeze, woldgrater_freeze_start(0), woldgrater_freeze_row(freeze_state(), freeze_row()),
       woldgrater_freeze_signals(freeze_state(), freeze_row()))
 CALLS(econ, woldgrater_econ_start(), woldgrater_econ_row(econ_state(), econ_row()), woldgrater_econ_signals(econ_state(), econ_row()))
 CALLS(relief, woldgrater_relief_start(times, integrals), woldgrater_relief_row(times, integrals, relief_state(), relief_row()),
       woldgrater_relief_signals(times, integrals, relief_state(), relief_row()))
 
-/* ---- The kinds. Columns of a row: t time, T supply temperature, O outdoor temperature, P pressure, u from 0 to 1, v from -1 to 1 (all
+/* Freeze protection whose stage 2 keeps to its hour; any word but 0 asks for it. */
+static void keep_hour_start(void)
+{
+    struct woldgrater_freeze_state made = woldgrater_freeze_start(UINT64_C(1) << 63);
+    memcpy(state, &made, sizeof made);
+}
+
+/* ---- The kinds, and freeze protection in its other manner. Columns of a row: t time, T supply temperature, O outdoor temperature, P pressure, u from 0 to 1, v from -1 to 1 (all
  * floats), b flag, a alarm, m mode, s stage. Columns of an answer: f float, n whole number or flag. */
 static const struct kind {
     const char *name;
+    const char *file;                      /* the first line of its row files */
     const char *row;
     const char *answer;
     size_t state;                          /* words */
@@ -86,13 +94,16 @@ static const struct kind {
     void (*show)(void);
     struct woldgrater_line_given (*write)(size_t room);
 } kinds[] = {
-    { "freeze", "tuuuuuTbbuuT", "nnfffnfffnn", WORDS(struct woldgrater_freeze_state), WORDS(struct woldgrater_freeze_shown) - 1,
-      offsetof(struct woldgrater_freeze_signals, stage) / 8, 0, WOLDGRATER_FREEZE_LINE, 0, freeze_start, freeze_play, freeze_show,
-      freeze_line },
-    { "econ", "tuuvObms", "fnff", WORDS(struct woldgrater_econ_state), WORDS(struct woldgrater_econ_shown) - 1,
+    { "freeze", "freeze", "tuuuuuTbbuuT", "nnfffnfffnn", WORDS(struct woldgrater_freeze_state),
+      WORDS(struct woldgrater_freeze_shown) - 1, offsetof(struct woldgrater_freeze_signals, stage) / 8, 0, WOLDGRATER_FREEZE_LINE, 0,
+      freeze_start, freeze_play, freeze_show, freeze_line },
+    { "keep-hour", "freeze", "tuuuuuTbbuuT", "nnfffnfffnn", WORDS(struct woldgrater_freeze_state),
+      WORDS(struct woldgrater_freeze_shown) - 1, offsetof(struct woldgrater_freeze_signals, stage) / 8, 0, WOLDGRATER_FREEZE_LINE, 0,
+      keep_hour_start, freeze_play, freeze_show, freeze_line },
+    { "econ", "econ", "tuuvObms", "fnff", WORDS(struct woldgrater_econ_state), WORDS(struct woldgrater_econ_shown) - 1,
       offsetof(struct woldgrater_econ_signals, minimum_outdoor_air_loop_enabled) / 8, 1, WOLDGRATER_ECON_LINE, 0, econ_start, econ_play,
       econ_show, econ_line },
-    { "relief", "tbbPaaaabbbb", "fffffffff", WORDS(struct woldgrater_relief_state), WORDS(struct woldgrater_relief_shown) - 1,
+    { "relief", "relief", "tbbPaaaabbbb", "fffffffff", WORDS(struct woldgrater_relief_state), WORDS(struct woldgrater_relief_shown) - 1,
       offsetof(struct woldgrater_relief_signals, control.average) / 8, 0, WOLDGRATER_RELIEF_LINE, 1, relief_start, relief_play,
       relief_show, relief_line },
 };

@@ -47,7 +47,7 @@ static size_t file_len;
 
 #pragma GCC diagnostic push
 #pragma GCC diagnostic ignored "-Wunused-parameter"
-CALL(freeze_start, struct woldgrater_freeze_state, (void), ())
+CALL(freeze_start, struct woldgrater_freeze_state, (uint64_t keeps_hour), (1))
 CALL(freeze_row, struct woldgrater_freeze_given, (struct woldgrater_freeze_state state, struct woldgrater_freeze_row row),
      (freeze_state, freeze_row))
 CALL(freeze_signals, struct woldgrater_freeze_shown, (struct woldgrater_freeze_state state, struct woldgrater_freeze_row row),

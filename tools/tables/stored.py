@@ -1,4 +1,4 @@
-"""The stored row files, played/*.rows, and the Rust's answers to each, *.answers; compare/stored makes and checks them."""
+"""The stored row files, played/*.rows, and the reference's answers, *.answers; compare/stored makes and checks them."""
 
 import glob
 import os
@@ -17,6 +17,11 @@ def names():
 def content(name, ending):
     with open(path(name, ending), 'rb') as file:
         return file.read()
+
+
+def words(name):
+    """What a program is called with to play this file: keep-hour where freeze protection's stage 2 keeps to its hour."""
+    return ['keep-hour'] if name.startswith('keep-hour_') else []
 
 
 def stored():

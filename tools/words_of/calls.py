@@ -5,6 +5,11 @@ import re
 
 # what stands in place of what, in this order
 ECON = [
+    ('(keeps_hour: u64)', '()'),
+    ('(freeze_start (word_flag keeps_hour))', 'economizer_fresh'),
+    ('freeze_start(keeps_hour != 0)', 'economizer_fresh()'),
+    ('{freeze_start, freeze_row}', '{economizer_fresh, economizer_row}'),
+    ('{freeze_row, freeze_start}', '{economizer_fresh, economizer_row}'),
     ('freeze_protection::signals::freeze_signals', 'economizer_controller::step::economizer_signals'),
     ('freeze_protection.specs.Signals', 'economizer_controller.specs.Step'),
     ('freeze_protection', 'economizer_controller'),
@@ -26,9 +31,11 @@ ECON = [
 ]
 # lines that speak of what is left on freeze protection's timers: the economizer has none
 TIMERS = re.compile('(?<!Line)(?<!line_)[Ll]eft')
+# and of the manner of its start: the economizer has one start
+MANNER = re.compile('word_flag[^ ]|stage 2')
 # the files that are written so: what they are written from, the names, and which lines are passed over
 FILES = {
-    'woldgrater/src/econ.rt': ('woldgrater/src/freeze.rt', ECON),
+    'woldgrater/src/econ.rt': ('woldgrater/src/freeze.rt', ECON, MANNER),
     'woldgrater/specs/Economizer.antt': ('woldgrater/specs/Freeze.antt', ECON),
     'woldgrater/proofs/econ/woldgrater_econ_row/Answers.antt': ('woldgrater/proofs/freeze/woldgrater_freeze_row/Answers.antt', ECON),
     'woldgrater_service/src/econ.rt': ('woldgrater_service/src/freeze.rt', ECON, TIMERS),

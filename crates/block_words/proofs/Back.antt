@@ -3,6 +3,7 @@ use Rattle.std.specs.Prelude.{Float, Option, None, Some}
 use mathlib.Core.Path.{◌≡◌, refl}
 use Rattle.logical.specs.declared.edge.EdgeState.{EdgeState}
 use Rattle.logical.specs.declared.held_timer.HeldTimerState.{HeldTimerState}
+use Rattle.logical.specs.declared.hour_timer.HourTimerState.{HourTimerState}
 use Rattle.logical.specs.declared.latch.LatchState.{LatchState}
 use Rattle.logical.specs.declared.pre.PreState.{PreState}
 use Rattle.logical.specs.declared.present_timer.PresentTimerState.{PresentTimerState}
@@ -19,6 +20,7 @@ use Rattle.reals.specs.declared.threshold.ThresholdState.{ThresholdState}
 use Rattle.block_words.proofs.Elements.{flag_back}
 use Rattle.block_words.specs.Edge.{edge_words, edge_of}
 use Rattle.block_words.specs.HeldTimer.{held_timer_words, held_timer_of}
+use Rattle.block_words.specs.HourTimer.{hour_timer_words, hour_timer_of}
 use Rattle.block_words.specs.Hysteresis.{hysteresis_words, hysteresis_of}
 use Rattle.block_words.specs.Integrator.{integrator_words, integrator_of}
 use Rattle.block_words.specs.Latch.{latch_words, latch_of}
@@ -89,6 +91,16 @@ true_false_hold_back s = λ i. record {
   prev_t = seen_back s.prev_t i;
   true_hold_duration = s.true_hold_duration;
   false_hold_duration = s.false_hold_duration;
+}
+
+pub hour_timer_back : (s : HourTimerState) → hour_timer_of (hour_timer_words s) ≡ s
+unfolding hour_timer_of hour_timer_words
+hour_timer_back s = λ i. record {
+  threshold = s.threshold;
+  entry_time = seen_back s.entry_time i;
+  prev_u = flag_back s.prev_u i;
+  passed = flag_back s.passed i;
+  runs_on = flag_back s.runs_on i;
 }
 
 pub pid_with_reset_back : (s : PidWithResetState) → pid_with_reset_of (pid_with_reset_words s) ≡ s

@@ -8,6 +8,7 @@ pub mod Pid
 pub mod Latch
 pub mod Edge
 pub mod TrueFalseHold
+pub mod HourTimer
 pub mod PidWithReset
 pub mod Hysteresis
 pub mod TrueDelay

@@ -3,6 +3,7 @@
 
 pub mod edge;
 pub mod held_timer;
+pub mod hour_timer;
 pub mod hysteresis;
 pub mod integrator;
 pub mod latch;

@@ -1,7 +1,8 @@
--- The cases of each sequence, the one fact that covers the table, and the sentences about single numbers.
+-- The cases of each sequence, the one fact that covers each table, and the sentences about single numbers.
 pub mod EconomizerCases
 pub mod ReliefCases
 pub mod RowLinesExample
 pub mod RowsWritten
 pub mod Table
+pub mod KeptHourTable
 pub mod Corners

@@ -10,13 +10,14 @@ use Rattle.logical.specs.Edge.{edge_output, edge_update}
 use Rattle.logical.specs.Latch.{latch_new, latch_output, latch_update}
 use Rattle.logical.specs.Timer.{entry_time, elapsed_time}
 use Rattle.logical.specs.HeldTimer.{held_timer_new, held_timer_output, held_timer_update}
+use Rattle.logical.specs.HourTimer.{hour_timer_new, hour_timer_output, hour_timer_update}
 use Rattle.logical.specs.TrueFalseHold.{true_false_hold_new, true_false_hold_required, true_false_hold_output_and_timer, true_false_hold_output, true_false_hold_update}
 use Rattle.refusals.specs.Refusals.{judge}
 use Rattle.logical.specs.Run.{run}
 use Rattle.freeze_protection.specs.Verdict.{numbers_finite, freeze_verdict}
 use Rattle.freeze_protection.specs.Signals.{freeze_calls, freeze_signals, stage_number}
 use Rattle.freeze_protection.specs.Commands.{freeze_commands}
-use Rattle.freeze_protection.specs.Step.{freeze_fresh, freeze_next, step_by, freeze_row}
+use Rattle.freeze_protection.specs.Step.{freeze_start, freeze_fresh, freeze_next, step_by, freeze_row}
 use Rattle.cases.specs.Freeze.{stages, signalled}
 use Rattle.cases.specs.Cases.{Cases}
 use Rattle.cases.proofs.RowLinesExample.{example_is_written}
@@ -24,7 +25,7 @@ use Rattle.cases.proofs.ReliefCases.{first_mean_told, alarm_guard, waits}
 use Rattle.cases.proofs.EconomizerCases.{rises_and_stays, starts_and_waits}
 
 pub all_cases : Cases
-unfolding stages signalled run freeze_row step_by freeze_verdict judge numbers_finite is_sign_negative seen_above freeze_fresh freeze_next freeze_commands freeze_signals freeze_calls stage_number crosses threshold_above threshold_below threshold_output threshold_update edge_output edge_update latch_new latch_output latch_update switch entry_time elapsed_time held_timer_new held_timer_output held_timer_update true_false_hold_new true_false_hold_required true_false_hold_output_and_timer true_false_hold_output true_false_hold_update seen_elapsed seen_gap greater is_nan le sub of_bits
+unfolding stages signalled run freeze_row step_by freeze_verdict judge numbers_finite is_sign_negative seen_above freeze_fresh freeze_start freeze_next freeze_commands freeze_signals freeze_calls stage_number crosses threshold_above threshold_below threshold_output threshold_update edge_output edge_update latch_new latch_output latch_update switch entry_time elapsed_time held_timer_new held_timer_output held_timer_update hour_timer_new hour_timer_output hour_timer_update true_false_hold_new true_false_hold_required true_false_hold_output_and_timer true_false_hold_output true_false_hold_update seen_elapsed seen_gap greater is_nan le sub of_bits
 all_cases = record {
   f1 = λ o. (refl, refl);
   f2 = λ o. (refl, refl, refl);

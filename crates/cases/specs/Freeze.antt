@@ -1,5 +1,7 @@
 -- Freeze rows as the cases are written, 'time: supply kelvin; mixed 300.15, no reset unless said', and what a run of them from a fresh state gives.
 use Rattle.std.specs.Prelude.{ℕ, Bool, true, false, List, map}
+use Rattle.std.specs.Float.{binary64}
+use Rattle.std.specs.Float.Ieee.{round}
 use Rattle.logical.specs.Run.{run}
 use Rattle.past.specs.Whole.{Told}
 use Rattle.freeze_protection.specs.declared.types.FreezeRow.{FreezeRow}
@@ -7,10 +9,9 @@ use Rattle.freeze_protection.specs.declared.types.FreezeSignals.{FreezeSignals}
 use Rattle.freeze_protection.specs.Signals.{freeze_signals}
 use Rattle.freeze_protection.specs.Step.{freeze_fresh}
 use Rattle.freeze_protection.specs.Told.{freeze_told, freeze_returned}
-use Rattle.reals.specs.Constants.{whole}
 use Rattle.cases.specs.Words.{kelvin, Number, number}
 
--- what a case says of a row: its time in seconds, its supply air in hundredths of a kelvin, its reset
+-- what a case says of a row: its time in seconds or parts of one, its supply air in hundredths of a kelvin, its reset
 pub record Written : Type 0 where
   pub time : ℕ
   pub supply : ℕ
@@ -35,11 +36,12 @@ pub record FreezeOthers : Type 0 where
 
 -- `others` has the open fields of the row at each time
 module _ (others : ℕ → FreezeOthers) where
-  abbrev pub freeze_row_of : Written → FreezeRow
-  freeze_row_of w =
+  -- with times in this part of a second
+  abbrev pub freeze_row_in : ℕ → Written → FreezeRow
+  freeze_row_in parts w =
       let o = others w.time in
       record {
-        time = whole w.time;
+        time = round binary64 false w.time parts;
         outdoor_damper_min_position = number o.outdoor_damper_min_position;
         outdoor_damper = number o.outdoor_damper;
         heating_coil = number o.heating_coil;
@@ -52,6 +54,9 @@ module _ (others : ℕ → FreezeOthers) where
         cooling_coil = number o.cooling_coil;
         mixed_air_temperature = kelvin 30015;
       }
+
+  abbrev pub freeze_row_of : Written → FreezeRow
+  freeze_row_of = freeze_row_in 1
 
   -- the stage, or the refusal, at each row of a run from a fresh state
   unfoldable pub stages : List Written → List (Told ℕ)

@@ -1,4 +1,4 @@
--- The proved cases: the rows that they speak of, and the table.
+-- The proved cases: the rows that they speak of, and the table; and a table for the start in which stage 2 keeps to its hour.
 pub mod Words
 pub mod Freeze
 pub mod Relief
@@ -6,3 +6,4 @@ pub mod Economizer
 pub mod RowLines
 pub mod RowsWritten
 pub mod Cases
+pub mod KeptHour

@@ -1,4 +1,4 @@
--- Demand 3 for freeze rows: for every list of rows from a fresh start, refused ones included, and every place in it, the row's answer is the refusal that the
+-- Demand 3 for freeze rows: for every list of rows from either start, refused ones included, and every place in it, the row's answer is the refusal that the
 -- list alone tells, or else its stage is the one that is read off the accepted rows up to there. Assumes nothing.
 use Rattle.std.specs.Prelude.{Ok, Err}
 use Prim.Native.Nat.{ℕ, suc, ◌<◌}
@@ -19,11 +19,11 @@ use Rattle.freeze_protection.specs.declared.types.FreezeState.{FreezeState}
 use Rattle.freeze_protection.specs.Verdict.{numbers_finite, freeze_verdict}
 use Rattle.freeze_protection.specs.Signals.{freeze_signals}
 use Rattle.freeze_protection.specs.Commands.{freeze_commands}
-use Rattle.freeze_protection.specs.Step.{freeze_fresh, freeze_next, freeze_row, step_by}
-use Rattle.freeze_protection.specs.Reading.{Past, time_of_row, stage, verdict_of}
+use Rattle.freeze_protection.specs.Step.{freeze_start, freeze_fresh, freeze_next, freeze_row, step_by}
+use Rattle.freeze_protection.specs.Reading.{Past, time_of_row, stage, stage_from, verdict_of}
 use Rattle.freeze_protection.specs.Told.{stage_told, freeze_told, freeze_returned}
-use Rattle.freeze_protection.specs.Left.{freeze_left, timers_of, timers_told, timers_read}
-use Rattle.freeze_protection.proofs.Blocks.{state_of, fresh_is, signals_read, next_reads}
+use Rattle.freeze_protection.specs.Left.{freeze_left, timers_of, timers_told, timers_from, timers_read}
+use Rattle.freeze_protection.proofs.Blocks.{state_of, start_is, hour_threshold, signals_read, next_reads}
 
 -- ---- a row's answer tells its verdict and its stage, and its state moves by its verdict
 module _ (state : FreezeState) (row : FreezeRow) where
@@ -43,21 +43,21 @@ module _ (state : FreezeState) (row : FreezeRow) where
       go (Ok tt) = refl
       go (Err r) = refl
 
--- ---- one row further
-module _ (x : FreezeRow) (h : Past) (o : T (in_order time_of_row (x ∷ h))) where
-  reads : (freeze_signals (state_of h) x).stage ≡ stage (x ∷ h)
-  reads = rw (signals_read x h o)
+-- ---- one row further, from the start that k names: stage 2 keeps to its hour, or not
+module _ (k : Bool) (x : FreezeRow) (h : Past) (o : T (in_order time_of_row (x ∷ h))) where
+  reads : (freeze_signals (state_of k h) x).stage ≡ stage_from k (x ∷ h)
+  reads = rw (signals_read k x h o)
 
-  moves : freeze_next (state_of h) x (freeze_signals (state_of h) x) ≡ state_of (x ∷ h)
-  moves = rw (signals_read x h o) (next_reads x h o)
+  moves : freeze_next (state_of k h) x (freeze_signals (state_of k h) x) ≡ state_of k (x ∷ h)
+  moves = rw (signals_read k x h o) (next_reads k x h o)
 
   -- the timers too: their elapsed times, and what is left
-  timers_read_lem : timers_of (state_of h) (freeze_signals (state_of h) x) ≡ timers_read (x ∷ h)
-  unfolding timers_read freeze_left
-  timers_read_lem = rw (signals_read x h o)
+  timers_read_lem : timers_of (state_of k h) (freeze_signals (state_of k h) x) ≡ timers_from k (x ∷ h)
+  unfolding timers_from freeze_left
+  timers_read_lem = rw (signals_read k x h o, hour_threshold k h)
 
 -- ---- whole lists
-time_finite : (x : FreezeRow) → T (numbers_finite x) → T (finite x.time)
+pub time_finite : (x : FreezeRow) → T (numbers_finite x) → T (finite x.time)
 unfolding numbers_finite
 time_finite x t = first (finite x.time) _ _ _ _ _ _ _ _ _ t
   where
@@ -65,21 +65,35 @@ time_finite x t = first (finite x.time) _ _ _ _ _ _ _ _ _ t
     first true b c d e f g h i j t = tt
     first false b c d e f g h i j t = t
 
--- for every list of rows
-pub freeze_demand_3 : (rows : List FreezeRow) → run freeze_told freeze_returned freeze_fresh rows ≡ read_all verdict_of stage [] rows
+-- for every list of rows, from either start
+pub freeze_demand_3_from : (keeps_hour : Bool) (rows : List FreezeRow) → run freeze_told freeze_returned (freeze_start keeps_hour) rows ≡ read_all verdict_of (stage_from keeps_hour) [] rows
 unfolding freeze_verdict
-freeze_demand_3 =
+freeze_demand_3_from k =
     sequence_reads time_of_row numbers_finite time_finite (λ s. s.last) (λ s x. (freeze_signals s x).stage) (λ s x. freeze_next s x (freeze_signals s x))
-    freeze_told freeze_returned told_is returned_is freeze_fresh state_of stage fresh_is (λ h. refl) reads moves
+    freeze_told freeze_returned told_is returned_is (freeze_start k) (state_of k) (stage_from k) (start_is k) (λ h. refl) (reads k) (moves k)
+
+-- from the start of the Rust
+pub freeze_demand_3 : (rows : List FreezeRow) → run freeze_told freeze_returned freeze_fresh rows ≡ read_all verdict_of stage [] rows
+unfolding freeze_fresh
+freeze_demand_3 = freeze_demand_3_from false
 
 -- and at every place of it: place i tells the refusal that fits row i, or what is read off the accepted ones of rows 0 to i
+pub freeze_demand_3_from_at : (keeps_hour : Bool) (other : Told ℕ) (rows : List FreezeRow) (i : ℕ) → i < length rows
+    → get_or (run freeze_told freeze_returned (freeze_start keeps_hour) rows) i other ≡ read_newest verdict_of (stage_from keeps_hour) other (reverse (take (suc i) rows))
+freeze_demand_3_from_at k other rows i l = rw (freeze_demand_3_from k rows) (read_at_lem verdict_of (stage_from k) other [] rows i l)
+
 pub freeze_demand_3_at : (other : Told ℕ) (rows : List FreezeRow) (i : ℕ) → i < length rows
     → get_or (run freeze_told freeze_returned freeze_fresh rows) i other ≡ read_newest verdict_of stage other (reverse (take (suc i) rows))
-freeze_demand_3_at other rows i l = rw (freeze_demand_3 rows) (read_at_lem verdict_of stage other [] rows i l)
+unfolding freeze_fresh
+freeze_demand_3_at = freeze_demand_3_from_at false
 
 -- what a display shows of the timers, for every list of rows: the marks, the elapsed times and what is left are those read off the accepted rows
-pub freeze_timers : (rows : List FreezeRow) → run timers_told freeze_returned freeze_fresh rows ≡ read_all verdict_of timers_read [] rows
+pub freeze_timers_from : (keeps_hour : Bool) (rows : List FreezeRow) → run timers_told freeze_returned (freeze_start keeps_hour) rows ≡ read_all verdict_of (timers_from keeps_hour) [] rows
 unfolding freeze_verdict
-freeze_timers =
+freeze_timers_from k =
     sequence_reads time_of_row numbers_finite time_finite (λ s. s.last) (λ s x. timers_of s (freeze_signals s x)) (λ s x. freeze_next s x (freeze_signals s x))
-    timers_told freeze_returned (λ s x. refl) returned_is freeze_fresh state_of timers_read fresh_is (λ h. refl) timers_read_lem moves
+    timers_told freeze_returned (λ s x. refl) returned_is (freeze_start k) (state_of k) (timers_from k) (start_is k) (λ h. refl) (timers_read_lem k) (moves k)
+
+pub freeze_timers : (rows : List FreezeRow) → run timers_told freeze_returned freeze_fresh rows ≡ read_all verdict_of timers_read [] rows
+unfolding freeze_fresh
+freeze_timers = freeze_timers_from false

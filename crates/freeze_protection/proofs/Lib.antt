@@ -5,3 +5,4 @@ pub mod Stages
 pub mod Blocks
 pub mod Demand3
 pub mod Questions
+pub mod KeptHour

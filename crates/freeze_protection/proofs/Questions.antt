@@ -27,21 +27,16 @@ use Rattle.freeze_protection.specs.declared.types.FreezeRow.{FreezeRow}
 use Rattle.freeze_protection.specs.Constants.{cold_stage2, cold_stage3, band, five_minutes, fifteen_minutes, hour}
 use Rattle.freeze_protection.specs.Verdict.{numbers_finite}
 use Rattle.freeze_protection.specs.Signals.{stage_number}
-use Rattle.freeze_protection.specs.Reading.{Past, time_of_row, supply_of, cold, passed_for, reset_row, holding, end_of_hour, recovery, stage, stage1_call, stage3_call, verdict_of}
+use Rattle.freeze_protection.specs.Reading.{Past, time_of_row, supply_of, cold, passed_for, reset_row, holding, end_of_hour, recovery, stage, stage1_call, stage1_call_by, stage3_call, stage_by, verdict_of}
 use Rattle.freeze_protection.specs.Questions.{is_accepted, taken, tripped, stage_after, hold_after, mild, mild_after, row_at, hour_dropped, rows_of278, newest_time, not_falling, calling}
-use Rattle.freeze_protection.proofs.Stages.{two_is}
+use Rattle.freeze_protection.proofs.Stages.{two_is, three_exactly}
 use Rattle.freeze_protection.proofs.Blocks.{cold_none, holding_none, hour_none, call3_none}
 
 -- ---- question 1, which rows can end a stage 3 trip. A trip stands exactly where the stage is 3
 pub trip_is_stage_3 : (l : List FreezeRow) → tripped l ≡ eqb (stage_after l) 3
-unfolding tripped stage_after stage
-trip_is_stage_3 l = go (latched stage3_call reset_row (accepted verdict_of l)) (latched holding end_of_hour (accepted verdict_of l)) (latched stage1_call recovery (accepted verdict_of l))
-  where
-    go : (a b c : Bool) → a ≡ eqb (cond a 3 (cond b 2 (cond c 1 0))) 3
-    go true b c = refl
-    go false true c = refl
-    go false false true = refl
-    go false false false = refl
+unfolding tripped stage_after stage_by
+trip_is_stage_3 l =
+    three_exactly (latched stage3_call reset_row (accepted verdict_of l)) (latched holding end_of_hour (accepted verdict_of l)) (latched stage1_call recovery (accepted verdict_of l))
 
 -- a trip that stands after the rows l stands after one row more unless that row is accepted and says reset
 trip_step : (x : FreezeRow) (h : Past) → latched stage3_call reset_row h ≡ true → latched stage3_call reset_row (x ∷ h) ≡ not x.software_reset
@@ -87,7 +82,7 @@ new_rise_trips x h c r = rw (latched_step stage3_call reset_row call3_none x h, 
 -- unless it is an end-of-hour row
 pub stage_2_ends : (x : FreezeRow) (h : Past) → stage h ≡ 2
     → stage (x ∷ h) ≡ cond (rises stage3_call (x ∷ h) && not x.software_reset) 3 (cond (end_of_hour (x ∷ h)) (cond (latched stage1_call recovery (x ∷ h)) 1 0) 2)
-unfolding stage stage_number
+unfolding stage_by stage_number
 stage_2_ends x h e =
     let l = two_is (latched stage3_call reset_row h) (latched holding end_of_hour h) (latched stage1_call recovery h) e in
     rw (latched_step stage3_call reset_row call3_none x h, ← rises_step stage3_call call3_none x h, latched_step holding end_of_hour holding_none x h, l.0, l.1)
@@ -165,7 +160,7 @@ module _ (x : FreezeRow) (h : Past) (m : T (mild x)) (r : Released h) where
 
 module _ (l : List FreezeRow) (two : stage_after l ≡ 2) (off : hold_after l ≡ false) where
   released_here : Released (accepted verdict_of l)
-  unfolding stage_after hold_after stage stage_number
+  unfolding stage_after hold_after stage_by stage_number
   released_here =
       let h = accepted verdict_of l in
       let b = two_is (latched stage3_call reset_row h) (latched holding end_of_hour h) (latched stage1_call recovery h) two in
@@ -184,7 +179,7 @@ module _ (l : List FreezeRow) (two : stage_after l ≡ 2) (off : hold_after l �
 
   -- after any rows l that leave stage 2 with its hold off, and any rows m of which the accepted ones are mild, it is stage 2
   pub stage_2_stands : (m : List FreezeRow) → T (mild_after m l) → stage_after (m ++ l) ≡ 2
-  unfolding stage_after stage stage_number
+  unfolding stage_after stage_by stage_number
   stage_2_stands m t = rw ((released_after m t).untripped, (released_after m t).standing) refl
 
 -- ---- F5 leaves it so
@@ -194,7 +189,7 @@ unfolding accepted verdict_after judge numbers_finite seen_above is_sign_negativ
 dropped_taken = refl
 
 dropped_released : (stage hour_dropped ≡ 2) × (holding hour_dropped ≡ false)
-unfolding stage stage_number stage1_call recovery holding end_of_hour stage3_call cold hold values hold_here changes gaps turns passed latched rises since since_with some every lt le add sub round of_bits
+unfolding stage_by stage_number stage1_call_by recovery holding end_of_hour stage3_call cold hold values hold_here changes gaps turns passed latched rises since since_with some every lt le add sub round of_bits
 dropped_released = (refl, refl)
 
 pub hour_dropped_lem : (stage_after hour_dropped ≡ 2) × (hold_after hour_dropped ≡ false)

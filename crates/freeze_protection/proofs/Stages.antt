@@ -3,6 +3,7 @@ use Prim.Native.Nat.{ℕ}
 use native.Mathlib.Omega.{arith}
 use mathlib.Core.Path.{◌≡◌, refl}
 use mathlib.Core.Bool.{Bool, true, false, ◌&&◌, ◌||◌, cond}
+use lib.Dec.{eqb}
 use Rattle.reals.specs.Switch.{switch}
 use Rattle.freeze_protection.specs.declared.types.FreezeRow.{FreezeRow}
 use Rattle.freeze_protection.specs.declared.types.FreezeState.{FreezeState}
@@ -25,6 +26,13 @@ two_is true b c e = absurd (omega arith)
 two_is false true c e = (refl, refl)
 two_is false false true e = absurd (omega arith)
 two_is false false false e = absurd (omega arith)
+
+-- the number is 3 exactly where the stage 3 latch is on
+pub three_exactly : (a b c : Bool) → a ≡ eqb (cond a 3 (cond b 2 (cond c 1 0))) 3
+three_exactly true b c = refl
+three_exactly false true c = refl
+three_exactly false false true = refl
+three_exactly false false false = refl
 
 and_off : (b : Bool) → (b && false) ≡ false
 and_off true = refl

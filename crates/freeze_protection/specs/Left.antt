@@ -1,5 +1,5 @@
 -- How long until each timer passes, for a display; and the timers of a row as a display shows them, read off the past.
-use Rattle.std.specs.Prelude.{Bool, List, [], ◌∷◌, Float}
+use Rattle.std.specs.Prelude.{Bool, false, List, [], ◌∷◌, Float}
 use Rattle.logical.specs.declared.timer.TimerOutput.{TimerOutput}
 use Rattle.logical.specs.Timer.{timer_output_left}
 use Rattle.past.specs.Whole.{Told, told_by}
@@ -10,7 +10,7 @@ use Rattle.freeze_protection.specs.declared.types.FreezeLeft.{FreezeLeft}
 use Rattle.freeze_protection.specs.Constants.{cold_stage1, cold_stage2, cold_stage3, five_minutes, fifteen_minutes, hour}
 use Rattle.freeze_protection.specs.Verdict.{freeze_verdict}
 use Rattle.freeze_protection.specs.Signals.{freeze_signals}
-use Rattle.freeze_protection.specs.Reading.{Past, cold, warm, holding, timed_for}
+use Rattle.freeze_protection.specs.Reading.{Past, cold, warm, timed_for, hour_from}
 
 -- of each timer, its threshold less its elapsed time, not below 0, and 0 once it has passed
 unfoldable pub freeze_left : FreezeState → FreezeSignals → FreezeLeft
@@ -45,9 +45,9 @@ timers_told state row = told_by (freeze_verdict state row) (timers_of state (fre
 abbrev pub left_for : Float → (Past → Bool) → Past → Float
 left_for n u h = timer_output_left (timed_for n u h) n
 
--- the timers of the row here
-unfoldable pub timers_read : Past → Timers
-timers_read h =
+-- the timers of the row here, from either start
+unfoldable pub timers_from : Bool → Past → Timers
+timers_from keeps_hour h =
     record {
       answers =
           timed_for five_minutes (cold cold_stage1) h
@@ -55,7 +55,7 @@ timers_read h =
           ∷ timed_for five_minutes (cold cold_stage2) h
           ∷ timed_for fifteen_minutes (cold cold_stage2) h
           ∷ timed_for five_minutes (cold cold_stage3) h
-          ∷ timed_for hour holding h
+          ∷ hour_from keeps_hour h
           ∷ [];
       left = record {
         tim = left_for five_minutes (cold cold_stage1) h;
@@ -63,6 +63,10 @@ timers_read h =
         tim2 = left_for five_minutes (cold cold_stage2) h;
         tim3 = left_for fifteen_minutes (cold cold_stage2) h;
         tim4 = left_for five_minutes (cold cold_stage3) h;
-        tim5 = left_for hour holding h;
+        tim5 = timer_output_left (hour_from keeps_hour h) hour;
       };
     }
+
+-- from the start of the Rust
+abbrev pub timers_read : Past → Timers
+timers_read = timers_from false

@@ -9,3 +9,4 @@ pub mod Told
 pub mod Left
 pub mod Stages
 pub mod Questions
+pub mod KeptHour

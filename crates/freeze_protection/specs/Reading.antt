@@ -1,12 +1,12 @@
 -- The freeze stage read off the past, with no state. A past holds the accepted rows up to here, the newest first.
-use Rattle.std.specs.Prelude.{ℕ, Bool, false, ◌||◌, cond, List, [], ◌∷◌, Float}
+use Rattle.std.specs.Prelude.{ℕ, Bool, true, false, ◌||◌, cond, List, [], ◌∷◌, Float}
 use Rattle.std.specs.Float.{binary64}
 use Rattle.std.specs.Float.Ieee.{add, sub, lt}
 use Rattle.reals.specs.Constants.{plus_zero}
 use Rattle.logical.specs.declared.timer.TimerOutput.{TimerOutput}
 use Rattle.refusals.specs.Refusals.{Verdict}
 use Rattle.past.specs.Past.{since, rises, latched}
-use Rattle.past.specs.Runs.{passed, held_timer}
+use Rattle.past.specs.Runs.{passed, held_timer, lapses, run_on_timer}
 use Rattle.past.specs.Turns.{hold}
 use Rattle.past.specs.Acceptance.{verdict_after}
 use Rattle.freeze_protection.specs.declared.types.FreezeRow.{FreezeRow}
@@ -49,26 +49,59 @@ timed_for n u h = held_timer time_of_row n u h
 unfoldable pub holding : Past → Bool
 holding h = hold time_of_row hour plus_zero (passed_for five_minutes (cold cold_stage2)) h
 
--- end of hour: the hold passed 3600 turns true
-unfoldable pub end_of_hour : Past → Bool
-end_of_hour h = rises (passed_for hour holding) h
-
 -- recovery: warm passed 300 turns true
 unfoldable pub recovery : Past → Bool
 recovery h = rises (passed_for five_minutes warm) h
-
--- stage 1 call: cold 277.55 passed 300, or an end-of-hour row
-unfoldable pub stage1_call : Past → Bool
-stage1_call h = passed_for five_minutes (cold cold_stage1) h || end_of_hour h
 
 -- stage 3 call: cold 276.45 passed 900 or cold 274.15 passed 300
 unfoldable pub stage3_call : Past → Bool
 stage3_call h = passed_for fifteen_minutes (cold cold_stage2) h || passed_for five_minutes (cold cold_stage3) h
 
--- the stage: its call has risen at some row and no clearing row lies from there to here, ends counted. 3 (its call, cleared by a reset row) before 2 (its hold, cleared
--- by the end of hour) before 1 (its call, cleared by a recovery), else 0
-unfoldable pub stage : Past → ℕ
-stage h = cond (latched stage3_call reset_row h) 3 (cond (latched holding end_of_hour h) 2 (cond (latched stage1_call recovery h) 1 0))
+-- end of hour, from the start of the Rust: the hold passed 3600 turns true
+unfoldable pub end_of_hour : Past → Bool
+end_of_hour h = rises (passed_for hour holding) h
+
+-- end of hour, where stage 2 keeps to its hour (Guideline 36): let r be the nearest row up to here at which the hold came on; here is the first row after r whose time
+-- minus the time of r is 3600 or more, however warm it is there and whatever the hold has done since r
+unfoldable pub hour_over : Past → Bool
+hour_over h = lapses time_of_row hour holding h
+
+-- what a start fixes of the reading: its end-of-hour rows
+module _ (ends : Past → Bool) where
+  -- stage 1 call: cold 277.55 passed 300, or an end-of-hour row
+  unfoldable pub stage1_call_by : Past → Bool
+  stage1_call_by h = passed_for five_minutes (cold cold_stage1) h || ends h
+
+  -- the stage: its call has risen at some row and no clearing row lies from there to here, ends counted. 3 (its call, cleared by a reset row) before 2 (its hold, cleared
+  -- by the end of hour) before 1 (its call, cleared by a recovery), else 0
+  unfoldable pub stage_by : Past → ℕ
+  stage_by h = cond (latched stage3_call reset_row h) 3 (cond (latched holding ends h) 2 (cond (latched stage1_call_by recovery h) 1 0))
+
+-- from the start of the Rust
+abbrev pub stage1_call : Past → Bool
+stage1_call = stage1_call_by end_of_hour
+
+abbrev pub stage : Past → ℕ
+stage = stage_by end_of_hour
+
+-- where stage 2 keeps to its hour
+abbrev pub stage1_call_kept : Past → Bool
+stage1_call_kept = stage1_call_by hour_over
+
+abbrev pub stage_kept : Past → ℕ
+stage_kept = stage_by hour_over
+
+-- the end-of-hour rows, the stage, and what the hour's timer shows, from either start
+abbrev pub end_of_hour_from : Bool → Past → Bool
+end_of_hour_from true = hour_over
+end_of_hour_from false = end_of_hour
+
+abbrev pub stage_from : Bool → Past → ℕ
+stage_from keeps_hour = stage_by (end_of_hour_from keeps_hour)
+
+abbrev pub hour_from : Bool → Past → TimerOutput
+hour_from true h = run_on_timer time_of_row hour holding h
+hour_from false h = timed_for hour holding h
 
 -- the refusal, if any, that fits a row after these accepted rows: the list alone tells it
 abbrev pub verdict_of : Past → FreezeRow → Verdict

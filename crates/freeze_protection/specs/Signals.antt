@@ -7,6 +7,7 @@ use Rattle.reals.specs.Pid.{pid_output}
 use Rattle.logical.specs.Edge.{edge_output}
 use Rattle.logical.specs.Latch.{latch_output}
 use Rattle.logical.specs.HeldTimer.{held_timer_output}
+use Rattle.logical.specs.HourTimer.{hour_timer_output}
 use Rattle.logical.specs.TrueFalseHold.{true_false_hold_output}
 use Rattle.freeze_protection.specs.declared.types.FreezeRow.{FreezeRow}
 use Rattle.freeze_protection.specs.declared.types.FreezeState.{FreezeState}
@@ -45,7 +46,8 @@ unfoldable pub stage_number : Bool → Bool → Bool → ℕ
 stage_number three two one = cond three 3 (cond two 2 (cond one 1 0))
 
 -- the three latches, and the two heating loops. Stage 3 (lat1): from a rise of its call to a reset. Stage 2 (lat2): from a rise of its hold until the hold has been on
--- for an hour (tim5, endStaTwo), which may never come (F5). Stage 1 (lat): from a rise of its call (tim or that end of stage 2) until the supply air has recovered (endStaOne)
+-- for an hour (tim5, endStaTwo), which may never come (F5), or, where stage 2 keeps to its hour, until an hour after that rise. Stage 1 (lat): from a rise of its call
+-- (tim or that end of stage 2) until the supply air has recovered (endStaOne)
 unfoldable pub freeze_signals : FreezeState → FreezeRow → FreezeSignals
 freeze_signals state row =
     let t = row.time in
@@ -53,7 +55,7 @@ freeze_signals state row =
     let calls = freeze_calls state row in
     let or8 = calls.tim3.passed || calls.tim4.passed in
     let lat1 = latch_output state.lat1 or8 row.software_reset in
-    let tim5 = held_timer_output state.tim5 t calls.hol_sta2_y in
+    let tim5 = hour_timer_output state.tim5 t calls.hol_sta2_y in
     let end_sta_two = edge_output state.end_sta_two tim5.passed in
     let lat2 = latch_output state.lat2 calls.hol_sta2_y end_sta_two in
     let or2 = calls.tim.passed || end_sta_two in

@@ -1,11 +1,12 @@
 -- A fresh state, the state after an accepted row, and a row: its commands and the next state, or its refusal and the old state.
-use Rattle.std.specs.Prelude.{None, Some, Result}
+use Rattle.std.specs.Prelude.{Bool, false, None, Some, Result}
 use Rattle.reals.specs.Constants.{plus_zero}
 use Rattle.reals.specs.Threshold.{threshold_above, threshold_below, threshold_update}
 use Rattle.reals.specs.Pid.{pid_new, pid_update}
 use Rattle.logical.specs.Edge.{edge_new, edge_update}
 use Rattle.logical.specs.Latch.{latch_new, latch_update}
 use Rattle.logical.specs.HeldTimer.{held_timer_new, held_timer_update}
+use Rattle.logical.specs.HourTimer.{hour_timer_new, hour_timer_update}
 use Rattle.logical.specs.TrueFalseHold.{true_false_hold_new, true_false_hold_update}
 use Rattle.refusals.specs.declared.Refusal.{Refusal}
 use Rattle.refusals.specs.declared.step.Step.{Step}
@@ -20,9 +21,10 @@ use Rattle.freeze_protection.specs.Verdict.{freeze_verdict}
 use Rattle.freeze_protection.specs.Signals.{freeze_signals}
 use Rattle.freeze_protection.specs.Commands.{freeze_commands}
 
--- the blocks as FreezeProtection.mo parameterises them, before any row; the hold of stage 2 lasts an hour once on, and comes on at once
-unfoldable pub freeze_fresh : FreezeState
-freeze_fresh = record {
+-- the blocks as FreezeProtection.mo parameterises them, before any row; the hold of stage 2 lasts an hour once on, and comes on at once. Stage 2's own hour (tim5)
+-- stops with the hold, or, where stage 2 keeps to its hour (Guideline 36), runs on
+unfoldable pub freeze_start : Bool → FreezeState
+freeze_start keeps_hour = record {
   last = None;
   les_thr = threshold_below cold_stage1 band;
   tim = held_timer_new five_minutes;
@@ -39,10 +41,14 @@ freeze_fresh = record {
   tim4 = held_timer_new five_minutes;
   lat1 = latch_new;
   hea_coil_stage_3 = pid_new;
-  tim5 = held_timer_new hour;
+  tim5 = hour_timer_new hour keeps_hour;
   lat2 = latch_new;
   end_sta_two = edge_new;
 }
+
+-- the start of freeze_protection.rs
+unfoldable pub freeze_fresh : FreezeState
+freeze_fresh = freeze_start false
 
 -- every block one row further, each with the input that its output was worked from
 unfoldable pub freeze_next : FreezeState → FreezeRow → FreezeSignals → FreezeState
@@ -67,7 +73,7 @@ freeze_next state row signals =
       tim4 = held_timer_update state.tim4 t calls.les_thr2_y;
       lat1 = latch_update state.lat1 signals.or8_y row.software_reset;
       hea_coil_stage_3 = pid_update state.hea_coil_stage_3 t stage3_setpoint signals.stage_3_measurement;
-      tim5 = held_timer_update state.tim5 t calls.hol_sta2_y;
+      tim5 = hour_timer_update state.tim5 t calls.hol_sta2_y;
       lat2 = latch_update state.lat2 calls.hol_sta2_y signals.end_sta_two_y;
       end_sta_two = edge_update state.end_sta_two signals.tim5.passed;
     }

@@ -1,6 +1,6 @@
 // A fresh state, the state after an accepted row, and the row itself: the public operation of freeze protection.
 ghost use Rattle.std.specs.Prelude.{◌≡◌};
-ghost use Rattle.freeze_protection.specs.Step.{freeze_fresh, freeze_next, freeze_row};
+ghost use Rattle.freeze_protection.specs.Step.{freeze_start, freeze_fresh, freeze_next, freeze_row};
 
 use crate::commands::freeze_commands;
 use crate::constants::{
@@ -12,16 +12,18 @@ use crate::types::{FreezeRow, FreezeSignals, FreezeState, FreezeStep};
 use crate::verdict::freeze_verdict;
 use logical::edge::EdgeState;
 use logical::held_timer::HeldTimerState;
+use logical::hour_timer::HourTimerState;
 use logical::latch::LatchState;
 use logical::true_false_hold::TrueFalseHoldState;
 use reals::pid::PidState;
 use reals::threshold::ThresholdState;
 use refusals::step::step_by;
 
-// The state of a start, before any row.
-#[tactic(auto, unfolding(crate::specs::Step::freeze_fresh))]
-pub fn freeze_fresh() -> FreezeState
-    ensures { result ≡ freeze_fresh }
+// The state of a start, before any row: as freeze_protection.rs starts, or so that stage 2 keeps to its hour and then hands over to stage 1, as Guideline 36
+// has it.
+#[tactic(auto, unfolding(crate::specs::Step::freeze_start))]
+pub fn freeze_start(keeps_hour: bool) -> FreezeState
+    ensures { result ≡ freeze_start keeps_hour }
 {
     FreezeState {
         last: None,
@@ -40,10 +42,18 @@ pub fn freeze_fresh() -> FreezeState
         tim4: HeldTimerState::new(FIVE_MINUTES),
         lat1: LatchState::new(),
         hea_coil_stage_3: PidState::new(),
-        tim5: HeldTimerState::new(HOUR),
+        tim5: HourTimerState::new(HOUR, keeps_hour),
         lat2: LatchState::new(),
         end_sta_two: EdgeState::new(),
     }
+}
+
+// The start of freeze_protection.rs.
+#[tactic(auto, unfolding(crate::specs::Step::freeze_fresh))]
+pub fn freeze_fresh() -> FreezeState
+    ensures { result ≡ freeze_fresh }
+{
+    freeze_start(false)
 }
 
 // The state after an accepted row with these signals: every block is updated.

@@ -1,6 +1,7 @@
 // The records of freeze protection, with the names and the order of freeze_protection.rs.
 use logical::edge::EdgeState;
 use logical::held_timer::HeldTimerState;
+use logical::hour_timer::HourTimerState;
 use logical::latch::LatchState;
 use logical::timer::TimerOutput;
 use logical::true_false_hold::TrueFalseHoldState;
@@ -26,7 +27,7 @@ pub struct FreezeRow {
     pub mixed_air_temperature: f64,
 }
 
-// The blocks of `freeze_protection_trace`, and the time of the last accepted row.
+// The blocks of `freeze_protection_trace`, and the time of the last accepted row. The manner of the start is tim5's.
 #[derive(Clone, Copy)]
 pub struct FreezeState {
     pub last: Option<f64>,
@@ -45,7 +46,7 @@ pub struct FreezeState {
     pub tim4: HeldTimerState,
     pub lat1: LatchState,
     pub hea_coil_stage_3: PidState,
-    pub tim5: HeldTimerState,
+    pub tim5: HourTimerState,
     pub lat2: LatchState,
     pub end_sta_two: EdgeState,
 }
@@ -85,7 +86,7 @@ pub struct FreezeSignals {
 }
 
 // The seconds left until each timer passes: tim calls stage 1, tim1 ends it, tim2 and its hold begin stage 2, tim3 or tim4 calls stage 3, and tim5 ends stage 2. A
-// timer whose input is off has its whole time left.
+// timer whose input is off has its whole time left; where stage 2 keeps to its hour, tim5 runs on, and has its whole time left until the hold first comes on.
 #[derive(Clone, Copy)]
 pub struct FreezeLeft {
     pub tim: f64,

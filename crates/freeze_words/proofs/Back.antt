@@ -1,7 +1,7 @@
 -- The words of a value stand for the value. Written by tools/words.
 use mathlib.Core.Path.{◌≡◌}
 use Rattle.freeze_protection.specs.declared.types.FreezeState.{FreezeState}
-use Rattle.block_words.proofs.Back.{edge_back, held_timer_back, latch_back, pid_back, seen_back, threshold_back, true_false_hold_back}
+use Rattle.block_words.proofs.Back.{edge_back, held_timer_back, hour_timer_back, latch_back, pid_back, seen_back, threshold_back, true_false_hold_back}
 use Rattle.freeze_words.specs.Freeze.{freeze_words, freeze_of}
 
 pub freeze_back : (s : FreezeState) → freeze_of (freeze_words s) ≡ s
@@ -23,7 +23,7 @@ freeze_back s = λ i. record {
   tim4 = held_timer_back s.tim4 i;
   lat1 = latch_back s.lat1 i;
   hea_coil_stage_3 = pid_back s.hea_coil_stage_3 i;
-  tim5 = held_timer_back s.tim5 i;
+  tim5 = hour_timer_back s.tim5 i;
   lat2 = latch_back s.lat2 i;
   end_sta_two = edge_back s.end_sta_two i;
 }

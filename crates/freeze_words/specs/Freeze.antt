@@ -3,6 +3,7 @@ use Rattle.freeze_protection.specs.declared.types.FreezeState.{FreezeState}
 use Rattle.freeze_words.specs.declared.freeze.FreezeWords.{FreezeWords}
 use Rattle.block_words.specs.Edge.{edge_words, edge_of}
 use Rattle.block_words.specs.HeldTimer.{held_timer_words, held_timer_of}
+use Rattle.block_words.specs.HourTimer.{hour_timer_words, hour_timer_of}
 use Rattle.block_words.specs.Latch.{latch_words, latch_of}
 use Rattle.block_words.specs.Pid.{pid_words, pid_of}
 use Rattle.block_words.specs.Seen.{seen_words, seen_of}
@@ -28,7 +29,7 @@ freeze_words s = record {
   tim4 = held_timer_words s.tim4;
   lat1 = latch_words s.lat1;
   hea_coil_stage_3 = pid_words s.hea_coil_stage_3;
-  tim5 = held_timer_words s.tim5;
+  tim5 = hour_timer_words s.tim5;
   lat2 = latch_words s.lat2;
   end_sta_two = edge_words s.end_sta_two;
 }
@@ -52,7 +53,7 @@ freeze_of w = record {
   tim4 = held_timer_of w.tim4;
   lat1 = latch_of w.lat1;
   hea_coil_stage_3 = pid_of w.hea_coil_stage_3;
-  tim5 = held_timer_of w.tim5;
+  tim5 = hour_timer_of w.tim5;
   lat2 = latch_of w.lat2;
   end_sta_two = edge_of w.end_sta_two;
 }

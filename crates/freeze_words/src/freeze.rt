@@ -4,6 +4,7 @@ ghost use Rattle.freeze_words.specs.Freeze.{freeze_words, freeze_of};
 
 use block_words::edge::EdgeWords;
 use block_words::held_timer::HeldTimerWords;
+use block_words::hour_timer::HourTimerWords;
 use block_words::latch::LatchWords;
 use block_words::pid::PidWords;
 use block_words::seen::SeenWords;
@@ -12,6 +13,7 @@ use block_words::true_false_hold::TrueFalseHoldWords;
 use freeze_protection::types::FreezeState;
 use logical::edge::EdgeState;
 use logical::held_timer::HeldTimerState;
+use logical::hour_timer::HourTimerState;
 use logical::latch::LatchState;
 use logical::true_false_hold::TrueFalseHoldState;
 use reals::pid::PidState;
@@ -36,7 +38,7 @@ pub struct FreezeWords {
     pub tim4: HeldTimerWords,
     pub lat1: LatchWords,
     pub hea_coil_stage_3: PidWords,
-    pub tim5: HeldTimerWords,
+    pub tim5: HourTimerWords,
     pub lat2: LatchWords,
     pub end_sta_two: EdgeWords,
 }
@@ -64,7 +66,7 @@ impl From<FreezeState> for FreezeWords {
             tim4: HeldTimerWords::from(value.tim4),
             lat1: LatchWords::from(value.lat1),
             hea_coil_stage_3: PidWords::from(value.hea_coil_stage_3),
-            tim5: HeldTimerWords::from(value.tim5),
+            tim5: HourTimerWords::from(value.tim5),
             lat2: LatchWords::from(value.lat2),
             end_sta_two: EdgeWords::from(value.end_sta_two),
         }
@@ -94,7 +96,7 @@ impl From<FreezeWords> for FreezeState {
             tim4: HeldTimerState::from(words.tim4),
             lat1: LatchState::from(words.lat1),
             hea_coil_stage_3: PidState::from(words.hea_coil_stage_3),
-            tim5: HeldTimerState::from(words.tim5),
+            tim5: HourTimerState::from(words.tim5),
             lat2: LatchState::from(words.lat2),
             end_sta_two: EdgeState::from(words.end_sta_two),
         }

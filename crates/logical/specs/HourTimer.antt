@@ -31,10 +31,10 @@ run_on_timer_update s t u = record {
 -- ---- either manner
 -- a timer with its manner, and the timer without it
 abbrev pub hour_timer : Bool → HeldTimerState → HourTimerState
-hour_timer runs_on s = record { timer = s; runs_on = runs_on }
+hour_timer runs_on s = record { threshold = s.threshold; entry_time = s.entry_time; prev_u = s.prev_u; passed = s.passed; runs_on = runs_on }
 
 abbrev pub timer_in : HourTimerState → HeldTimerState
-timer_in s = s.timer
+timer_in s = record { threshold = s.threshold; entry_time = s.entry_time; prev_u = s.prev_u; passed = s.passed }
 
 unfoldable pub hour_timer_new : Float → Bool → HourTimerState
 hour_timer_new threshold runs_on = hour_timer runs_on (held_timer_new threshold)
@@ -45,11 +45,11 @@ hour_timer_output s t u = cond s.runs_on (run_on_timer_output (timer_in s) t u) 
 unfoldable pub hour_timer_update : HourTimerState → Float → Bool → HourTimerState
 hour_timer_update s t u = hour_timer s.runs_on (cond s.runs_on (run_on_timer_update (timer_in s) t u) (held_timer_update (timer_in s) t u))
 
--- how the code works both: a held timer that is given u, or, where it runs on, an input that stays true and rises where u does
-unfoldable pub hour_timer_held : HourTimerState → Bool → HeldTimerState
-hour_timer_held s u = record {
-  threshold = s.timer.threshold;
-  entry_time = s.timer.entry_time;
-  prev_u = s.timer.prev_u || s.runs_on && not u;
-  passed = s.timer.passed;
+-- how the code works the one that runs on: a held timer that is given an input which stays true and rises where u does
+unfoldable pub hour_timer_running : HourTimerState → Bool → HeldTimerState
+hour_timer_running s u = record {
+  threshold = s.threshold;
+  entry_time = s.entry_time;
+  prev_u = s.prev_u || not u;
+  passed = s.passed;
 }

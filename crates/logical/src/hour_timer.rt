@@ -1,14 +1,18 @@
 // The timer of stage 2's hour, in either manner. It stops when its input falls, as CDL.Logical.Timer does (freeze_protection.rs); or it runs on: it
 // counts from the input's last rise whatever the input does since, and a pass stays until the next rise.
 ghost use Rattle.std.specs.Prelude.{◌≡◌};
-ghost use Rattle.logical.specs.HourTimer.{hour_timer_new, hour_timer_held, hour_timer_output, hour_timer_update};
+ghost use Rattle.logical.specs.HourTimer.{hour_timer, timer_in, hour_timer_new, hour_timer_running, hour_timer_output, hour_timer_update};
 
 use crate::held_timer::HeldTimerState;
 use crate::timer::TimerOutput;
 
+// The manner stands among the timer's own flags: beside a whole timer it is a word more, which each row copies.
 #[derive(Clone, Copy)]
 pub struct HourTimerState {
-    pub timer: HeldTimerState,
+    pub threshold: f64,
+    pub entry_time: Option<f64>,
+    pub prev_u: bool,
+    pub passed: bool,
     pub runs_on: bool,
 }
 
@@ -17,38 +21,63 @@ impl HourTimerState {
     pub fn new(threshold: f64, runs_on: bool) -> Self
         ensures { result ≡ hour_timer_new threshold runs_on }
     {
+        Self::of(HeldTimerState::new(threshold), runs_on)
+    }
+
+    // A held timer, in a manner.
+    fn of(held: HeldTimerState, runs_on: bool) -> Self
+        ensures { result ≡ hour_timer runs_on held }
+    {
         HourTimerState {
-            timer: HeldTimerState::new(threshold),
+            threshold: held.threshold,
+            entry_time: held.entry_time,
+            prev_u: held.prev_u,
+            passed: held.passed,
             runs_on,
         }
     }
 
-    // The held timer that answers for it: where it runs on, one whose input stays on and rises where u does.
-    #[tactic(auto, unfolding(crate::specs::HourTimer::hour_timer_held))]
-    fn held(self, u: bool) -> HeldTimerState
-        ensures { result ≡ hour_timer_held self u }
+    // The timer without its manner.
+    fn timer(self) -> HeldTimerState
+        ensures { result ≡ timer_in self }
     {
         HeldTimerState {
-            prev_u: self.timer.prev_u | (self.runs_on & !u),
-            ..self.timer
+            threshold: self.threshold,
+            entry_time: self.entry_time,
+            prev_u: self.prev_u,
+            passed: self.passed,
         }
     }
 
-    #[tactic(auto, using(crate::proofs::Manners::output_is))]
+    // Where it runs on: the held timer that answers for it, whose input stays true and rises where u does.
+    #[tactic(auto, unfolding(crate::specs::HourTimer::hour_timer_running))]
+    fn running(self, u: bool) -> HeldTimerState
+        ensures { result ≡ hour_timer_running self u }
+    {
+        HeldTimerState {
+            prev_u: self.prev_u | !u,
+            ..self.timer()
+        }
+    }
+
+    #[tactic(auto, using(crate::proofs::Manners::output_is), unfolding(crate::specs::HourTimer::hour_timer_output))]
     pub fn output(self, t: f64, u: bool) -> TimerOutput
         ensures { result ≡ hour_timer_output self t u }
     {
-        self.held(u).output(t, u | self.runs_on)
+        if self.runs_on {
+            return self.running(u).output(t, true);
+        }
+        self.timer().output(t, u)
     }
 
-    #[tactic(auto, using(crate::proofs::Manners::update_is))]
+    #[tactic(auto, using(crate::proofs::Manners::update_is), unfolding(crate::specs::HourTimer::hour_timer_update))]
     pub fn update(mut self, t: f64, u: bool) -> Self
         ensures { result ≡ hour_timer_update self t u }
     {
-        let next = self.held(u).update(t, u | self.runs_on);
-        HourTimerState {
-            timer: HeldTimerState { prev_u: u, ..next },
-            runs_on: self.runs_on,
+        if self.runs_on {
+            let next = self.running(u).update(t, true);
+            return Self::of(HeldTimerState { prev_u: u, ..next }, true);
         }
+        Self::of(self.timer().update(t, u), false)
     }
 }

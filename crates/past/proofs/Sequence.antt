@@ -12,9 +12,9 @@ use Rattle.refusals.specs.Refusals.{judge}
 use Rattle.logical.specs.Run.{run}
 use Rattle.past.specs.Acceptance.{last_time, verdict_after}
 use Rattle.past.specs.Stepped.{in_order}
-use Rattle.past.specs.Whole.{Told, Taken, told_by, next_by, read_all}
+use Rattle.past.specs.Whole.{Told, Taken, told_by, next_by, accepted, read_all}
 use Rattle.past.proofs.Judged.{judged_in_order}
-use Rattle.past.proofs.Whole.{run_reads}
+use Rattle.past.proofs.Whole.{good_accepted, run_reads}
 
 -- a value, and a state, count only where the row is accepted
 pub told_where_accepted : {Y : Type 0} (v : Verdict) (a b : Y) → (v ≡ Ok tt → a ≡ b) → told_by v a ≡ told_by v b
@@ -30,6 +30,10 @@ module _ {R : Type 0} (time : R → Float) (all_finite : R → Bool) (time_finit
   pub in_order_lem : (x : R) (h : List R) → T (in_order time h) → verdict_after time all_finite h x ≡ Ok tt → T (in_order time (x ∷ h))
   unfolding verdict_after
   in_order_lem x h o e = judged_in_order time all_finite time_finite x h o e
+
+  -- so the accepted rows of any list have theirs in order
+  pub accepted_in_order : (l : List R) → T (in_order time (accepted (verdict_after time all_finite) l))
+  accepted_in_order = good_accepted (verdict_after time all_finite) (in_order time) tt in_order_lem
 
   -- `last` is the last accepted time that a state keeps; `value` is what an accepted row tells, and `after` the state that it leaves
   module _ {S Y : Type 0} (last : S → Option Float) (value : S → R → Y) (after : S → R → S) where

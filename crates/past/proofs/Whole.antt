@@ -12,14 +12,10 @@ use Rattle.refusals.specs.Refusals.{Verdict}
 use Rattle.logical.specs.Run.{run}
 use Rattle.past.specs.Whole.{Told, told_by, next_by, state_after, accepted, read_at, read_all}
 
--- S is the state, R the row and Y what is read; `good` says what holds of accepted rows
-module _ {S R Y : Type 0}
-    (verdict : List R → R → Verdict) (good : List R → Bool) (read : List R → Y)
-    (answer : S → R → Told Y) (next : S → R → S) (state_of : List R → S)
+-- what each accepted row keeps holds of the accepted rows of every list
+module _ {R : Type 0} (verdict : List R → R → Verdict) (good : List R → Bool)
     (Good-none : T (good []))
-    (Good-more : (x : R) (h : List R) → T (good h) → verdict h x ≡ Ok tt → T (good (x ∷ h)))
-    (answers : (x : R) (h : List R) → T (good h) → answer (state_of h) x ≡ told_by (verdict h x) (read (x ∷ h)))
-    (moves : (x : R) (h : List R) → T (good h) → next (state_of h) x ≡ next_by (verdict h x) (state_of (x ∷ h)) (state_of h)) where
+    (Good-more : (x : R) (h : List R) → T (good h) → verdict h x ≡ Ok tt → T (good (x ∷ h))) where
   pub good_accepted : (l : List R) → T (good (accepted verdict l))
   unfolding accepted
   good_accepted [] = Good-none
@@ -29,9 +25,17 @@ module _ {S R Y : Type 0}
       go (Ok tt) f g = f refl
       go (Err r) f g = g
 
+-- S is the state, R the row and Y what is read; `good` says what holds of accepted rows
+module _ {S R Y : Type 0}
+    (verdict : List R → R → Verdict) (good : List R → Bool) (read : List R → Y)
+    (answer : S → R → Told Y) (next : S → R → S) (state_of : List R → S)
+    (Good-none : T (good []))
+    (Good-more : (x : R) (h : List R) → T (good h) → verdict h x ≡ Ok tt → T (good (x ∷ h)))
+    (answers : (x : R) (h : List R) → T (good h) → answer (state_of h) x ≡ told_by (verdict h x) (read (x ∷ h)))
+    (moves : (x : R) (h : List R) → T (good h) → next (state_of h) x ≡ next_by (verdict h x) (state_of (x ∷ h)) (state_of h)) where
   pub state_after_lem : (x : R) (l : List R) → next (state_of (accepted verdict l)) x ≡ state_of (accepted verdict (x ∷ l))
   unfolding accepted
-  state_after_lem x l = moves x (accepted verdict l) (good_accepted l) ∙ go (verdict (accepted verdict l) x)
+  state_after_lem x l = moves x (accepted verdict l) (good_accepted verdict good Good-none Good-more l) ∙ go (verdict (accepted verdict l) x)
     where
       go : (v : Verdict) → next_by v (state_of (x ∷ accepted verdict l)) (state_of (accepted verdict l)) ≡ state_of (next_by v (x ∷ accepted verdict l) (accepted verdict l))
       go (Ok tt) = refl
@@ -46,7 +50,7 @@ module _ {S R Y : Type 0}
   run_from : (l rows : List R) → run answer next (state_of (accepted verdict l)) rows ≡ read_all verdict read l rows
   unfolding run read_all
   run_from l [] = refl
-  run_from l (x ∷ rows) = rw (answers x (accepted verdict l) (good_accepted l), state_after_lem x l, run_from (x ∷ l) rows) refl
+  run_from l (x ∷ rows) = rw (answers x (accepted verdict l) (good_accepted verdict good Good-none Good-more l), state_after_lem x l, run_from (x ∷ l) rows) refl
 
   -- for every list of rows
   pub run_reads : (rows : List R) → run answer next (state_of []) rows ≡ read_all verdict read [] rows

@@ -135,7 +135,7 @@ good_none = tt
 
 -- the accepted rows of every list are so
 pub accepted_good : (l : List ReliefRow) → T (good (whole.accepted verdict_of l))
-accepted_good l = good_accepted verdict_of good relief_reading relief_told relief_returned state_of good_none good_more answers moves l
+accepted_good l = good_accepted verdict_of good good_none good_more l
 
 -- the whole list at once: the answers of the run are what the list tells at each place, in order
 pub relief_demand_3 : (rows : List ReliefRow) → run relief_told relief_returned relief_fresh rows ≡ read_all verdict_of relief_reading [] rows

@@ -1,14 +1,17 @@
 // Reads a row file from standard input and writes its answers to standard output. What came is answered and written
 // before more is read, so it serves a pipe. Where reading or writing fails it says so on standard error, and stops; its exit status is 0 then too.
+// With the argument `keep-hour` freeze protection starts so that its stage 2 keeps to its hour; rows of the other kinds are answered as without.
 #![tactic(auto)]
 
 ghost use Rattle.std.specs.Prelude.{◌≡◌, false};
 ghost use Rattle.row_kinds.specs.Rows.{Lent};
-ghost use Rattle.rows.specs.Turns.{TurnLeft};
+ghost use Rattle.rows.specs.Turns.{TurnLeft, keeping_hour};
 
+use freeze_protection::step::freeze_start;
 use row_kinds::kind::Phase;
 use row_kinds::types::{RowReader, fresh_at};
 use row_reader::feed::{feed, finish};
+use std::env::{Env, FillError};
 use std::io::Read;
 
 // The bytes kept of a line after a turn, whether all answers were written, and whether there is a next turn. They are two flags, and no Result, since what is
@@ -81,7 +84,15 @@ fn turn(
     }
 }
 
+// Freeze protection from its other start: stage 2 keeps to its hour.
+fn keep_hour(reader: &mut RowReader)
+    ensures { reader.new ≡ keeping_hour reader.old }
+{
+    reader.freeze = freeze_start(true);
+}
+
 // Turn after turn. Each loop has to end, and nothing says that an input does: the turns are counted, up to a number that no run uses up.
+// Where stage 2 is to keep to its hour, the first line is read a byte at a time, so that freeze protection is started before the line of a row has come.
 fn play(
     rt: &(impl Input + Print + Eprint),
     buffer: &mut [u8],
@@ -89,13 +100,32 @@ fn play(
     out: &mut [u8],
     times: &mut [f64; 512],
     integrals: &mut [f64; 512],
+    keeps_hour: bool,
 )
     requires { Lent buffer.old 0 out.old }
 {
     let mut reader = fresh_at(Phase::First);
     let mut len: usize = 0;
     for _ in 0..u64::MAX {
-        let turned = turn(rt, buffer, line, out, times, integrals, &mut reader, len);
+        let starts = keeps_hour & reader.phase.first();
+        let size = if starts {
+            buffer.len().min(1)
+        } else {
+            buffer.len()
+        };
+        let turned = turn(
+            rt,
+            &mut buffer[..size],
+            line,
+            out,
+            times,
+            integrals,
+            &mut reader,
+            len,
+        );
+        if starts & !reader.phase.first() {
+            keep_hour(&mut reader);
+        }
         len = turned.len;
         if !turned.more {
             break;
@@ -103,7 +133,25 @@ fn play(
     }
 }
 
+// Whether the arguments ask that stage 2 keeps to its hour; None where they ask for what is not known.
+fn asked(rt: &impl Env) -> Option<bool> {
+    let mut word = [0; 16];
+    if let Err(FillError::NotPresent) = rt.arg(1, &mut word) {
+        return Some(false);
+    }
+    let Err(FillError::NotPresent) = rt.arg(2, &mut word) else {
+        return None;
+    };
+    match rt.arg(1, &mut word) {
+        Ok(n) if word[..n].eq(b"keep-hour".as_slice()) => Some(true),
+        _ => None,
+    }
+}
+
 fn main(rt: HostRuntime) {
+    let Some(keeps_hour) = asked(&rt) else {
+        return say(&rt, "rows: the one argument that it takes is keep-hour");
+    };
     // The bytes read at a time, and room for the answers to them: an answer has at most 22 bytes for each byte of its line, newline included, and 256 bytes of a
     // line may have been kept before.
     let mut buffer = [0; 8192];
@@ -118,5 +166,6 @@ fn main(rt: HostRuntime) {
         &mut out,
         &mut times,
         &mut integrals,
+        keeps_hour,
     );
 }

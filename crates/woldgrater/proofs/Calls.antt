@@ -1,10 +1,11 @@
 -- Rows handed over call by call from a start are answered as the sequence answers them, and what is held after them stands for its state: nothing is lost between two
 -- calls. Assumes nothing.
 use mathlib.Core.Path.{◌≡◌, refl, ap, ◌∙◌}
+use mathlib.Core.Bool.{Bool}
 use mathlib.Core.List.{List, [], ◌∷◌}
 use Rattle.logical.specs.Run.{run}
 use Rattle.past.specs.Whole.{state_after}
-use Rattle.freeze_protection.specs.Step.{freeze_fresh, freeze_row}
+use Rattle.freeze_protection.specs.Step.{freeze_start, freeze_row}
 use Rattle.economizer_controller.specs.Step.{economizer_fresh, economizer_row}
 use Rattle.relief_fan_group.specs.declared.types.ReliefState.{ReliefState}
 use Rattle.relief_fan_group.specs.Step.{relief_fresh, relief_row}
@@ -43,11 +44,12 @@ module _ {S W R : Type 0} (held : S → W) (state : W → S) (back : (s : S) →
       back (next (state (state_after (λ w y. held (next (state w) y)) (held s) l)) x)
       ∙ ap (λ (t : S). next t x) (held_after s l)
 
-pub freeze_by_calls : (rows : List FreezeRowWords)
-    → run (λ w x. freeze_answered (freeze_row (freeze_of w) (freeze_row_of x)).answer) (λ w x. freeze_words (freeze_row (freeze_of w) (freeze_row_of x)).state) (freeze_words freeze_fresh) rows
-    ≡ run (λ s x. freeze_answered (freeze_row s (freeze_row_of x)).answer) (λ s x. (freeze_row s (freeze_row_of x)).state) freeze_fresh rows
-freeze_by_calls rows =
-    by_calls freeze_words freeze_of freeze_back (λ s x. freeze_answered (freeze_row s (freeze_row_of x)).answer) (λ s x. (freeze_row s (freeze_row_of x)).state) freeze_fresh rows
+-- freeze protection, from either start
+pub freeze_by_calls : (keeps_hour : Bool) (rows : List FreezeRowWords)
+    → run (λ w x. freeze_answered (freeze_row (freeze_of w) (freeze_row_of x)).answer) (λ w x. freeze_words (freeze_row (freeze_of w) (freeze_row_of x)).state) (freeze_words (freeze_start keeps_hour)) rows
+    ≡ run (λ s x. freeze_answered (freeze_row s (freeze_row_of x)).answer) (λ s x. (freeze_row s (freeze_row_of x)).state) (freeze_start keeps_hour) rows
+freeze_by_calls keeps_hour rows =
+    by_calls freeze_words freeze_of freeze_back (λ s x. freeze_answered (freeze_row s (freeze_row_of x)).answer) (λ s x. (freeze_row s (freeze_row_of x)).state) (freeze_start keeps_hour) rows
 
 pub economizer_by_calls : (rows : List EconomizerRowWords)
     → run (λ w x. economizer_answered (economizer_row (economizer_of w) (economizer_row_of x)).answer) (λ w x. economizer_words (economizer_row (economizer_of w) (economizer_row_of x)).state)

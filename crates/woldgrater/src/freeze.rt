@@ -1,12 +1,13 @@
 // Freeze protection, a call a row, in memory that the caller holds.
 ghost use Rattle.std.specs.Prelude.{◌≡◌};
-ghost use Rattle.freeze_protection.specs.Step.{freeze_fresh, freeze_row};
+ghost use Rattle.block_words.specs.Flags.{word_flag};
+ghost use Rattle.freeze_protection.specs.Step.{freeze_start, freeze_row};
 ghost use Rattle.freeze_words.specs.Freeze.{freeze_words, freeze_of};
 ghost use Rattle.freeze_words.specs.FreezeRow.{freeze_row_of};
 ghost use Rattle.woldgrater.specs.Freeze.{freeze_given};
 
 use crate::answered::Answered;
-use freeze_protection::step::{freeze_fresh, freeze_row};
+use freeze_protection::step::{freeze_row, freeze_start};
 use freeze_protection::types::{FreezeRow, FreezeState};
 use freeze_words::freeze::FreezeWords;
 use freeze_words::freeze_commands::FreezeCommandsWords;
@@ -25,10 +26,12 @@ pub struct FreezeGiven {
 }
 
 // The state of a start, before any row.
-pub fn woldgrater_freeze_start() -> FreezeWords
-    ensures { result ≡ freeze_words freeze_fresh }
+// As the Rust starts where the word is 0, and else so that stage 2 keeps to its hour.
+#[tactic(auto, unfolding(block_words::specs::Flags::word_flag))]
+pub fn woldgrater_freeze_start(keeps_hour: u64) -> FreezeWords
+    ensures { result ≡ freeze_words (freeze_start (word_flag keeps_hour)) }
 {
-    FreezeWords::from(freeze_fresh())
+    FreezeWords::from(freeze_start(keeps_hour != 0))
 }
 
 // One row: its commands and the next state, or its refusal and the old state.

@@ -8,7 +8,7 @@ import unittest
 from tables import files, timeline
 from tables.columns import ANSWERS, ROWS, WORDS
 from tables.statuses import Status, whose
-from tables.stored import stored
+from tables.stored import stored, words
 from tables.tests.common import needs_reference, play, read
 
 WINTERS = {'cold-snap.csv': 'freeze', 'relief-hour.csv': 'relief', 'warm-spell.csv': 'econ'}
@@ -75,13 +75,14 @@ class Winters(unittest.TestCase):
 class Answers(unittest.TestCase):
     def test_every_list_is_shown_as_it_is(self):
         """A table of docs/ANSWERS.md after the name of a row file holds columns of its rows and answers. The page
-        shows every stored file whose name does not begin with a kind."""
+        shows every stored file whose name begins with no kind, and says how it is played."""
         page = read('docs', 'ANSWERS.md').decode()
-        shown = re.findall(r'tools/play played/(\S+)\.rows\n\n((?:\|.*\n)+)', page)
+        shown = re.findall(r'tools/play (?:--(\S+) )?played/(\S+)\.rows\n\n((?:\|.*\n)+)', page)
         lists = {name: played for name, *played in stored() if name.split('_')[0] not in ROWS}
-        self.assertEqual(sorted(name for name, _ in shown), list(lists))
-        for name, text in shown:
+        self.assertEqual(sorted(name for _, name, _ in shown), list(lists))
+        for manner, name, text in shown:
             with self.subTest(name=name):
+                self.assertEqual([manner] if manner else [], words(name))
                 head, body = cells(text)
                 lines = joined(*lists[name])
                 self.assertEqual(body, [[line[column] for column in head] for line in lines])
