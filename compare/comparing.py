@@ -19,11 +19,10 @@ EVENTS = os.path.join(TARGET, 'events')
 sys.path.insert(0, os.path.join(ROOT, 'tools'))
 from tables.columns import KINDS, WIDTH
 from tables.fields import from_column
+from tables.stored import KEEP_HOUR
 
 
-# Freeze protection in the start in which stage 2 keeps to its hour is played beside the kinds. A program is then called
-# with this word.
-KEEP_HOUR = 'keep-hour'
+# Beside the kinds freeze protection is played in the start in which stage 2 keeps to its hour.
 PLAYED = [*KINDS, KEEP_HOUR]
 
 # The Rust's own rows of each, by the names that the reference knows them by.

@@ -387,8 +387,8 @@ struct woldgrater_fed {
  *
  * woldgrater_freeze_start(0) starts freeze protection as the published Rust does: stage 2 may stand for good (docs/ANSWERS.md, question 2).
  * With any other word stage 2 keeps to its hour, as Guideline 36 has it: on the first row that is 3600 s or more after the hold last came
- * on it hands over to stage 1, or to 0 where the supply air has recovered on that row. The state carries the manner; row and signals
- * are the same calls.
+ * on it gives way to stage 1, or to 0 where the supply air has recovered on that row; a trip of stage 3 stands through it. The state
+ * carries the manner; row and signals are the same calls.
  *
  * KIND_signals gives what the commands of that row would be worked from, and moves nothing: thresholds, timers, latches and the stage
  * (freeze); enable and delays (economizer); pulses and latches (relief). Each timer of freeze protection and of the relief fan group has

@@ -362,15 +362,16 @@ KEEP_HOUR_CASES = [
         4360 278    | 2
         7900 278    | 1
     '''),
-    ('an hour ends once while the hold goes on', '''
-        time supply reset | stage
-        0    276    0     | 0
-        300  276    1     | 2
-        900  276    1     | 2
-        3900 276    0     | 1
-        7500 276    0     | 1
-        7560 281    0     | 1
-        7860 281    0     | 0
+    ('an hour ends once for each time that the hold comes on', '''
+        time supply | stage
+        0    276    | 0
+        300  276    | 2
+        360  278    | 2
+        3900 278    | 1
+        4000 281    | 1
+        4300 281    | 0
+        7500 281    | 0
+        7560 281    | 0
     '''),
     ('stage 3 stands on the end-of-hour row, and after it a reset gives stage 1', '''
         time supply reset | stage

@@ -71,24 +71,24 @@ impl List<'_> {
         self.rows[row].supply_air_temperature
     }
 
-    /// Cold at a level: some row is below the level, and every row after it up to here is below the
-    /// level + 0.25 (as that row is too).
+    /// Cold at a level: of the rows from here back that are below the level + 0.25 without a break,
+    /// one is below the level itself.
     fn cold(&self, level: f64) -> Marks {
         self.each(|here| {
             back(here, |row| self.supply(row) < level + 0.25).any(|row| self.supply(row) < level)
         })
     }
 
-    /// Warm: some row is above 280.15, and every row after it up to here is above 280.15 - 0.25 (as
-    /// that row is too).
+    /// Warm: of the rows from here back that are above 280.15 - 0.25 without a break, one is above
+    /// 280.15.
     fn warm(&self) -> Marks {
         self.each(|here| {
             back(here, |row| self.supply(row) > 280.15 - 0.25).any(|row| self.supply(row) > 280.15)
         })
     }
 
-    /// Passed: the unbroken true run of `u` up to here starts at a row, and some row after it up to
-    /// here has a time that, less the time of the start, is at least so many seconds.
+    /// Passed: `u` has been true without a break since some row, its first, and one of the rows after
+    /// that up to here is so many seconds or more later.
     fn passed(&self, u: &[bool], seconds: f64) -> Marks {
         let apart = |start, row| self.times[row] - self.times[start] >= seconds;
         self.each(|here| {
@@ -97,9 +97,9 @@ impl List<'_> {
         })
     }
 
-    /// The hold: row 0 takes the input. After row 0 or a change, the next change is the first row
-    /// where the input differs and the gaps since, each the time less the time of the row before,
-    /// added in order, reach 3600 to fall, 0 to rise.
+    /// The hold begins with row 0's input. From there, and again from each row where it turns, the
+    /// gaps between neighbouring rows are summed in turn; it turns at the next row that has the other
+    /// input and by which the sum is 3600 or more, if it is on, or 0 or more, if it is off.
     fn hold(&self, input: &[bool]) -> Marks {
         let mut hold = Marks::new();
         while hold.len() < input.len() {
@@ -115,9 +115,9 @@ impl List<'_> {
         hold
     }
 
-    /// End of hour: after the nearest row up to here at which the hold came on, here is the first
-    /// row whose time, less the time of that one, is 3600 or more. Whether it is cold is not asked,
-    /// nor whether the hold stands here, drops here or has dropped before.
+    /// End of hour: of the rows after the one at which the hold last came on, here is the first that
+    /// is 3600 s or more later, by the difference of the two times. The temperature is not asked, nor
+    /// what the hold has done since.
     fn end_of_hour(&self, hold: &[bool]) -> Marks {
         let over = |on, row| self.times[row] - self.times[on] >= 3600.0;
         self.each(|here| {
@@ -126,8 +126,7 @@ impl List<'_> {
         })
     }
 
-    /// A latch: its call rises at some row up to here, and no clearing row lies from there to here,
-    /// both ends counted.
+    /// A latch: going back from here over rows that do not clear it, its call rises at one of them.
     fn latch(&self, call: &[bool], clear: &[bool]) -> Marks {
         self.each(|here| back(here, |row| !clear[row]).any(|row| rises(call, row)))
     }

@@ -5,7 +5,8 @@
  *     calls KIND SEED N                plays N rows on forged states, whose words no call gave, checks each call, and prints one
  *                                      checksum of all that the calls gave
  *
- * KIND is freeze, keep-hour (freeze rows, stage 2 keeps to its hour), relief or econ. The first check that fails is printed with the number of its row, and the program ends with 1.
+ * KIND is freeze, keep-hour (freeze rows, stage 2 keeps to its hour), relief or econ. The first check that fails is printed with the
+ * number of its row, and the program ends with 1.
  */
 #include <inttypes.h>
 #include <stdio.h>

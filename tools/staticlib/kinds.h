@@ -76,8 +76,9 @@ static void keep_hour_start(void)
     memcpy(state, &made, sizeof made);
 }
 
-/* ---- The kinds, and freeze protection in its other manner. Columns of a row: t time, T supply temperature, O outdoor temperature, P pressure, u from 0 to 1, v from -1 to 1 (all
- * floats), b flag, a alarm, m mode, s stage. Columns of an answer: f float, n whole number or flag. */
+/* ---- The kinds, and freeze protection in its other manner. Columns of a row: t time, T supply temperature, O outdoor temperature,
+ * P pressure, u from 0 to 1, v from -1 to 1 (all floats), b flag, a alarm, m mode, s stage. Columns of an answer: f float, n whole
+ * number or flag. */
 static const struct kind {
     const char *name;
     const char *file;                      /* the first line of its row files */

@@ -5,6 +5,9 @@ import os
 
 ROOT = os.path.normpath(os.path.join(os.path.dirname(os.path.abspath(__file__)), '..', '..'))
 
+# What a program is called with where freeze protection is to start so that its stage 2 keeps to its hour.
+KEEP_HOUR = 'keep-hour'
+
 
 def path(name, ending):
     return os.path.join(ROOT, 'played', f'{name}.{ending}')
@@ -20,8 +23,8 @@ def content(name, ending):
 
 
 def words(name):
-    """What a program is called with to play this file: keep-hour where freeze protection's stage 2 keeps to its hour."""
-    return ['keep-hour'] if name.startswith('keep-hour_') else []
+    """What a program is called with to play a file of this name; a name begins with a kind, or with that word."""
+    return [KEEP_HOUR] if name.split('_')[0] == KEEP_HOUR else []
 
 
 def stored():

@@ -11,7 +11,7 @@ use Rattle.freeze_protection.specs.Step.{freeze_fresh}
 use Rattle.freeze_protection.specs.Told.{freeze_told, freeze_returned}
 use Rattle.cases.specs.Words.{kelvin, Number, number}
 
--- what a case says of a row: its time in seconds or parts of one, its supply air in hundredths of a kelvin, its reset
+-- what a case says of a row: its time in seconds or in parts of a second, its supply air in hundredths of a kelvin, its reset
 pub record Written : Type 0 where
   pub time : ℕ
   pub supply : ℕ
@@ -36,7 +36,7 @@ pub record FreezeOthers : Type 0 where
 
 -- `others` has the open fields of the row at each time
 module _ (others : ℕ → FreezeOthers) where
-  -- with times in this part of a second
+  -- with times in parts of a second, of which there are so many to a second
   abbrev pub freeze_row_in : ℕ → Written → FreezeRow
   freeze_row_in parts w =
       let o = others w.time in

@@ -37,7 +37,7 @@ use Rattle.freeze_protection.specs.declared.types.FreezeSignals.{FreezeSignals}
 use Rattle.freeze_protection.specs.Constants.{cold_stage1, cold_stage2, cold_stage3, warm_level, band, five_minutes, fifteen_minutes, hour, stage1_setpoint, stage3_setpoint}
 use Rattle.freeze_protection.specs.Signals.{freeze_calls, freeze_signals, stage_number}
 use Rattle.freeze_protection.specs.Step.{freeze_start, freeze_next}
-use Rattle.freeze_protection.specs.Reading.{Past, time_of_row, supply_of, reset_row, cold, warm, passed_for, timed_for, holding, end_of_hour, hour_over, recovery, stage1_call_by, stage3_call, stage_by, end_of_hour_from, stage_from, hour_from}
+use Rattle.freeze_protection.specs.Reading.{Past, time_of_row, supply_of, reset_row, cold, warm, passed_for, timed_for, holding, end_of_hour, end_of_hour_kept, recovery, stage1_call_by, stage3_call, stage_by, end_of_hour_from, stage_from, hour_from}
 
 -- ---- nothing is true before row 0
 pub cold_none : (l : Float) → cold l [] ≡ false
@@ -64,7 +64,7 @@ hour_mark_none true = lapsed_none time_of_row holding holding_none hour
 hour_mark_none false = hour_none
 
 pub end_none : (k : Bool) → end_of_hour_from k [] ≡ false
-end_none true = unfold hour_over in lapses_none time_of_row holding holding_none hour
+end_none true = unfold end_of_hour_kept in lapses_none time_of_row holding holding_none hour
 end_none false = unfold end_of_hour rises in rw hour_none refl
 
 pub call1_none : (k : Bool) → stage1_call_by (end_of_hour_from k) [] ≡ false
@@ -138,7 +138,7 @@ abbrev hour_mark : Bool → Past → Bool
 hour_mark k h = (hour_from k h).passed
 
 hour_edge : (k : Bool) (x : FreezeRow) (h : Past) → edge_output (edge_of (hour_mark k) h) (hour_mark k (x ∷ h)) ≡ end_of_hour_from k (x ∷ h)
-hour_edge true x h = unfold hour_over in lapse_output time_of_row hour holding holding_none hour_positive x h
+hour_edge true x h = unfold end_of_hour_kept in lapse_output time_of_row hour holding holding_none hour_positive x h
 hour_edge false x h = unfold end_of_hour in edge_output_lem (passed_for hour holding) hour_none x h
 
 pub hour_threshold : (k : Bool) (h : Past) → (hour_timer_of k h).threshold ≡ hour

@@ -26,11 +26,11 @@ use Rattle.freeze_protection.specs.declared.types.FreezeRow.{FreezeRow}
 use Rattle.freeze_protection.specs.Constants.{cold_stage1, warm_level, band, five_minutes, hour}
 use Rattle.freeze_protection.specs.Verdict.{numbers_finite}
 use Rattle.freeze_protection.specs.Signals.{stage_number}
-use Rattle.freeze_protection.specs.Reading.{Past, time_of_row, supply_of, cold, warm, passed_for, reset_row, holding, hour_over, recovery, stage1_call_by, stage1_call_kept, stage3_call, stage_by, stage_kept, verdict_of}
+use Rattle.freeze_protection.specs.Reading.{Past, time_of_row, supply_of, cold, warm, passed_for, reset_row, holding, end_of_hour_kept, recovery, stage1_call_by, stage1_call_kept, stage3_call, stage_by, stage_kept, verdict_of}
 use Rattle.freeze_protection.specs.Step.{freeze_start}
 use Rattle.freeze_protection.specs.Told.{freeze_told, freeze_returned}
 use Rattle.freeze_protection.specs.Questions.{tripped}
-use Rattle.freeze_protection.specs.KeptHour.{hour_runs, since_hold, stage_kept_after}
+use Rattle.freeze_protection.specs.KeptHour.{hour_runs, since_hold, stage_after_kept}
 use Rattle.freeze_protection.proofs.Stages.{two_is, three_exactly}
 use Rattle.freeze_protection.proofs.Blocks.{cold_none, warm_none, warm_passed_none, holding_none, hour_positive, call1_none}
 use Rattle.freeze_protection.proofs.Demand3.{time_finite, freeze_demand_3_from_at}
@@ -49,18 +49,18 @@ value e = ap value_of e
 
 -- ---- stage 2 and its hour
 -- stage 2's latch is on exactly while its hour runs
-latch_is_hour : (h : Past) → latched holding hour_over h ≡ hour_runs h
-unfolding hour_over hour_runs
+latch_is_hour : (h : Past) → latched holding end_of_hour_kept h ≡ hour_runs h
+unfolding end_of_hour_kept hour_runs
 latch_is_hour h = latched_until time_of_row holding holding_none hour h
 
 -- for every list: stage 3 where a trip stands; else stage 2 exactly while the hour runs; else 1 or 0
 pub stage_2_is_hour : (l : List FreezeRow)
-    → stage_kept_after l ≡ cond (tripped l) 3 (cond (hour_runs (accepted verdict_of l)) 2 (cond (latched stage1_call_kept recovery (accepted verdict_of l)) 1 0))
-unfolding stage_kept_after stage_by tripped
+    → stage_after_kept l ≡ cond (tripped l) 3 (cond (hour_runs (accepted verdict_of l)) 2 (cond (latched stage1_call_kept recovery (accepted verdict_of l)) 1 0))
+unfolding stage_after_kept stage_by tripped
 stage_2_is_hour l = rw (latch_is_hour (accepted verdict_of l)) refl
 
 -- so a trip stands exactly where the stage is 3
-pub kept_trip_is_stage_3 : (l : List FreezeRow) → tripped l ≡ eqb (stage_kept_after l) 3
+pub kept_trip_is_stage_3 : (l : List FreezeRow) → tripped l ≡ eqb (stage_after_kept l) 3
 kept_trip_is_stage_3 l =
     rw (stage_2_is_hour l) (three_exactly (tripped l) (hour_runs (accepted verdict_of l)) (latched stage1_call_kept recovery (accepted verdict_of l)))
 
@@ -70,11 +70,11 @@ unfolding hour_runs since_hold
 hour_by_the_clock l = within_elapsed time_of_row holding holding_none hour hour_positive (accepted verdict_of l) (accepted_in_order time_of_row numbers_finite time_finite l)
 
 -- so stage 2 stands at no row whose time is 3600 s or more above that of the row at which the hold last came on
-pub stage_2_keeps_hour : (l : List FreezeRow) → stage_kept_after l ≡ 2 → le hour (since_hold (accepted verdict_of l)) ≡ false
-unfolding stage_kept_after stage_by stage_number
+pub stage_2_keeps_hour : (l : List FreezeRow) → stage_after_kept l ≡ 2 → le hour (since_hold (accepted verdict_of l)) ≡ false
+unfolding stage_after_kept stage_by stage_number
 stage_2_keeps_hour l e =
     let h = accepted verdict_of l in
-    let runs : hour_runs h ≡ true = sym (latch_is_hour h) ∙ (two_is (latched stage3_call reset_row h) (latched holding hour_over h) (latched stage1_call_kept recovery h) e).1 in
+    let runs : hour_runs h ≡ true = sym (latch_is_hour h) ∙ (two_is (latched stage3_call reset_row h) (latched holding end_of_hour_kept h) (latched stage1_call_kept recovery h) e).1 in
     go (risen holding h) (le hour (since_hold h)) (sym (hour_by_the_clock l) ∙ runs)
   where
     go : (a b : Bool) → (a && not b) ≡ true → b ≡ false
@@ -90,7 +90,7 @@ told_2_keeps_hour rows i m e = at (reverse (take (suc i) rows)) (sym (freeze_dem
   where
     at : (l : List FreezeRow) → read_newest verdict_of stage_kept (Taken 0) l ≡ Taken 2 → le hour (since_hold (accepted verdict_of l)) ≡ false
     at [] e = absurd (omega (arith, value e))
-    at (x ∷ l) e = stage_2_keeps_hour (x ∷ l) (unfold stage_kept_after accepted in here (verdict_of (accepted verdict_of l) x) e)
+    at (x ∷ l) e = stage_2_keeps_hour (x ∷ l) (unfold stage_after_kept accepted in here (verdict_of (accepted verdict_of l) x) e)
       where
         here : (v : Verdict) → told_by v (stage_kept (x ∷ accepted verdict_of l)) ≡ Taken 2 → stage_kept (next_by v (x ∷ accepted verdict_of l) (accepted verdict_of l)) ≡ 2
         here (Ok tt) e = value e
@@ -142,20 +142,20 @@ recovery_warm (x ∷ h) r =
     passed_here five_minutes warm warm_none (x ∷ h) (and_l (passed_for five_minutes warm (x ∷ h)) (not (passed_for five_minutes warm h)) (rw (rises_step (passed_for five_minutes warm) warm_passed_none x h) at r))
 
 -- two neighbouring rows do not both end an hour
-ended : (h : Past) → T (hour_over h) → T (lapsed time_of_row hour holding h)
-unfolding hour_over
+ended : (h : Past) → T (end_of_hour_kept h) → T (lapsed time_of_row hour holding h)
+unfolding end_of_hour_kept
 ended [] o = absurd (fails (lapses time_of_row hour holding []) (lapses_none time_of_row holding holding_none hour) o)
 ended (x ∷ h) o =
     and_l (lapsed time_of_row hour holding (x ∷ h)) (not (lapsed time_of_row hour holding h))
     (rw (sym (lapses_is_rise time_of_row holding holding_none hour x h), rises_step (lapsed time_of_row hour holding) (lapsed_none time_of_row holding holding_none hour) x h) at o)
 
-ended_once : (x : FreezeRow) (h : Past) → T (hour_over (x ∷ h)) → T (hour_over h) → ⊥
-unfolding hour_over
+ended_once : (x : FreezeRow) (h : Past) → T (end_of_hour_kept (x ∷ h)) → T (end_of_hour_kept h) → ⊥
+unfolding end_of_hour_kept
 ended_once x h o p =
     no (lapsed time_of_row hour holding h)
     (and_r (lapsed time_of_row hour holding (x ∷ h)) (not (lapsed time_of_row hour holding h))
     (rw (sym (lapses_is_rise time_of_row holding holding_none hour x h), rises_step (lapsed time_of_row hour holding) (lapsed_none time_of_row holding holding_none hour) x h) at o))
-    (ended h (unfold hour_over in p))
+    (ended h (unfold end_of_hour_kept in p))
   where
     no : (b : Bool) → T (not b) → T b → ⊥
     no true a b = a
@@ -166,8 +166,8 @@ no_gap : (x : FreezeRow) (h : Past) → T (stage1_call_kept (x ∷ h)) → T (st
 unfolding stage1_call_by
 no_gap x h s c r =
     let w = recovery_warm h r in
-    either ⊥ (passed_for five_minutes (cold cold_stage1) h) (hour_over h) c (λ p. cold_not_warm h (passed_here five_minutes (cold cold_stage1) (cold_none cold_stage1) h p) w)
-    (λ o. either ⊥ (passed_for five_minutes (cold cold_stage1) (x ∷ h)) (hour_over (x ∷ h)) s (λ p. cold_not_warm h (passed_before five_minutes (cold cold_stage1) (cold_none cold_stage1) x h p) w) (λ q. ended_once x h q o))
+    either ⊥ (passed_for five_minutes (cold cold_stage1) h) (end_of_hour_kept h) c (λ p. cold_not_warm h (passed_here five_minutes (cold cold_stage1) (cold_none cold_stage1) h p) w)
+    (λ o. either ⊥ (passed_for five_minutes (cold cold_stage1) (x ∷ h)) (end_of_hour_kept (x ∷ h)) s (λ p. cold_not_warm h (passed_before five_minutes (cold cold_stage1) (cold_none cold_stage1) x h p) w) (λ q. ended_once x h q o))
 
 call1_kept_none : stage1_call_kept [] ≡ false
 call1_kept_none = call1_none true
@@ -187,12 +187,12 @@ called (x ∷ h) s =
     go false false c l q a f g = absurd a
 
 -- on an end_of_hour row, stage 3 where a trip stands; else stage 1, or 0 where a recovery falls on the row
-pub hour_hands_over : (l : List FreezeRow) → hour_over (accepted verdict_of l) ≡ true → stage_kept_after l ≡ cond (tripped l) 3 (cond (recovery (accepted verdict_of l)) 0 1)
-unfolding stage_kept_after stage_by tripped
+pub hour_hands_over : (l : List FreezeRow) → end_of_hour_kept (accepted verdict_of l) ≡ true → stage_after_kept l ≡ cond (tripped l) 3 (cond (recovery (accepted verdict_of l)) 0 1)
+unfolding stage_after_kept stage_by tripped
 hour_hands_over l e = at (accepted verdict_of l) e
   where
-    call : (h : Past) → T (hour_over h) → T (stage1_call_kept h)
-    call h o = unfold stage1_call_by in or_r (passed_for five_minutes (cold cold_stage1) h) (hour_over h) o
+    call : (h : Past) → T (end_of_hour_kept h) → T (stage1_call_kept h)
+    call h o = unfold stage1_call_by in or_r (passed_for five_minutes (cold cold_stage1) h) (end_of_hour_kept h) o
 
     off : (h : Past) → T (recovery h) → T (latched stage1_call_kept recovery h) → ⊥
     off [] r a = fails (latched stage1_call_kept recovery []) (latched_none stage1_call_kept recovery) a
@@ -202,16 +202,16 @@ hour_hands_over l e = at (accepted verdict_of l) e
         clears true b r t = t
         clears false b r t = r
 
-    one : (h : Past) → hour_over h ≡ true → latched stage1_call_kept recovery h ≡ not (recovery h)
+    one : (h : Past) → end_of_hour_kept h ≡ true → latched stage1_call_kept recovery h ≡ not (recovery h)
     one h e =
         opposite (latched stage1_call_kept recovery h) (recovery h) (λ a r. off h r a)
-        (λ n. either (T (latched stage1_call_kept recovery h)) (latched stage1_call_kept recovery h) (recovery h) (called h (call h (holds (hour_over h) e))) (λ a. a) (λ r. absurd (n r)))
+        (λ n. either (T (latched stage1_call_kept recovery h)) (latched stage1_call_kept recovery h) (recovery h) (called h (call h (holds (end_of_hour_kept h) e))) (λ a. a) (λ r. absurd (n r)))
 
-    two : (h : Past) → hour_over h ≡ true → latched holding hour_over h ≡ false
-    two [] e = latched_none holding hour_over
-    two (x ∷ h) e = rw (latched_step holding hour_over holding_none x h, e) refl
+    two : (h : Past) → end_of_hour_kept h ≡ true → latched holding end_of_hour_kept h ≡ false
+    two [] e = latched_none holding end_of_hour_kept
+    two (x ∷ h) e = rw (latched_step holding end_of_hour_kept holding_none x h, e) refl
 
-    at : (h : Past) → hour_over h ≡ true → stage_kept h ≡ cond (latched stage3_call reset_row h) 3 (cond (recovery h) 0 1)
+    at : (h : Past) → end_of_hour_kept h ≡ true → stage_kept h ≡ cond (latched stage3_call reset_row h) 3 (cond (recovery h) 0 1)
     at h e = rw (two h e, one h e) (go (latched stage3_call reset_row h) (recovery h))
       where
         go : (t r : Bool) → ◌≡◌ {A = ℕ} (cond t 3 (cond false 2 (cond (not r) 1 0))) (cond t 3 (cond r 0 1))

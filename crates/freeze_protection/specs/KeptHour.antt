@@ -16,5 +16,5 @@ unfoldable pub since_hold : Past → Float
 since_hold h = since_rise time_of_row holding h
 
 -- the stage after the rows l
-unfoldable pub stage_kept_after : List FreezeRow → ℕ
-stage_kept_after l = stage_kept (accepted verdict_of l)
+unfoldable pub stage_after_kept : List FreezeRow → ℕ
+stage_after_kept l = stage_kept (accepted verdict_of l)

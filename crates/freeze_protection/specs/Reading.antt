@@ -63,8 +63,8 @@ end_of_hour h = rises (passed_for hour holding) h
 
 -- end of hour, where stage 2 keeps to its hour (Guideline 36): let r be the nearest row up to here at which the hold came on; here is the first row after r whose time
 -- minus the time of r is 3600 or more, however warm it is there and whatever the hold has done since r
-unfoldable pub hour_over : Past → Bool
-hour_over h = lapses time_of_row hour holding h
+unfoldable pub end_of_hour_kept : Past → Bool
+end_of_hour_kept h = lapses time_of_row hour holding h
 
 -- what a start fixes of the reading: its end-of-hour rows
 module _ (ends : Past → Bool) where
@@ -84,16 +84,16 @@ stage1_call = stage1_call_by end_of_hour
 abbrev pub stage : Past → ℕ
 stage = stage_by end_of_hour
 
--- where stage 2 keeps to its hour
+-- where stage 2 keeps to its hour, which `kept` stands for
 abbrev pub stage1_call_kept : Past → Bool
-stage1_call_kept = stage1_call_by hour_over
+stage1_call_kept = stage1_call_by end_of_hour_kept
 
 abbrev pub stage_kept : Past → ℕ
-stage_kept = stage_by hour_over
+stage_kept = stage_by end_of_hour_kept
 
 -- the end-of-hour rows, the stage, and what the hour's timer shows, from either start
 abbrev pub end_of_hour_from : Bool → Past → Bool
-end_of_hour_from true = hour_over
+end_of_hour_from true = end_of_hour_kept
 end_of_hour_from false = end_of_hour
 
 abbrev pub stage_from : Bool → Past → ℕ

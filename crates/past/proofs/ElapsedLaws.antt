@@ -42,7 +42,7 @@ zero_first : (t : Float) → T (is_time t) → T (le plus_zero t)
 zero_first t h = not-lt→le t plus_zero (time_number t h) (time_number plus_zero zero_time) (plain_not_below t (time_plain t h))
 
 module _ {A : Type 0} (time : A → Float) where
-  order_kept : (k : ℕ) (h : List A) → T (in_order time h) → T (in_order time (drop k h))
+  pub order_kept : (k : ℕ) (h : List A) → T (in_order time h) → T (in_order time (drop k h))
   order_kept zero h o = o
   order_kept (suc k) [] o = tt
   order_kept (suc k) (x ∷ h) o = order_kept k h (order_before time x h o)
@@ -52,7 +52,7 @@ module _ {A : Type 0} (time : A → Float) where
   next_later x (y ∷ h) o = order_here time x (y ∷ h) o
 
   -- the time of an earlier row, and the 0 that stands before row 0, is not after the row here
-  earlier : (k : ℕ) (h : List A) → T (in_order time h) → T (le (time_of time (drop k h)) (time_of time h))
+  pub earlier : (k : ℕ) (h : List A) → T (in_order time h) → T (le (time_of time (drop k h)) (time_of time h))
   earlier zero [] o = le_refl plus_zero (time_number plus_zero zero_time)
   earlier zero (x ∷ h) o = le_refl (time x) (time_number (time x) (time_here time x h o))
   earlier (suc k) [] o = le_refl plus_zero (time_number plus_zero zero_time)
@@ -67,7 +67,7 @@ unfolding every
 every_last zero f t = and_l (f 0) true t
 every_last (suc k) f t = every_last k (λ j. f (suc j)) (and_r (f 0) (every (suc k) (λ j. f (suc j))) t)
 
-whole_order : (a b : ℕ) (p q : Float) → a ≤ 2 ^ 53 → b ≤ 2 ^ 53 → p ≡ whole a → q ≡ whole b → T (le p q) → a ≤ b
+pub whole_order : (a b : ℕ) (p q : Float) → a ≤ 2 ^ 53 → b ≤ 2 ^ 53 → p ≡ whole a → q ≡ whole b → T (le p q) → a ≤ b
 whole_order a b p q C D P Q t = leb→le a b (holds (leb a b) (sym (whole_le a b C D) ∙ ap₂ (λ (i j : Float). le i j) (sym P) (sym Q) ∙ is_true (le p q) t))
 
 -- ---- what is left, in whole seconds: the run starts at s, here is x, and a later row is y
@@ -94,7 +94,7 @@ module _ (m s x y : ℕ) (M : m ≤ 2 ^ 53) (Y : y ≤ 2 ^ 53) (S : s ≤ x) (X 
           (same _ _ (λ t. le→leb m (y - s) (omega (arith, leb→le (m - (x - s)) (y - x) t, S, X))) (λ t. le→leb (m - (x - s)) (y - x) (omega (arith, leb→le m (y - s) t, S, X)))))
 
   -- the same of three times that are such numbers
-  seconds_left : (n r t v : Float) → n ≡ whole m → r ≡ whole s → t ≡ whole x → v ≡ whole y
+  pub seconds_left : (n r t v : Float) → n ≡ whole m → r ≡ whole s → t ≡ whole x → v ≡ whole y
       → le n (sub binary64 v r) ≡ le (timer_output_left (record { passed = le n (sub binary64 t r); elapsed = sub binary64 t r }) n) (sub binary64 v t)
   seconds_left n r t v N R H K = rw (N, R, H, K) whole_left
 

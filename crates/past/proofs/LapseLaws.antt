@@ -1,5 +1,5 @@
 -- Lapses, one row further: what they say of the nearest rise is said of its time, and a latch that a lapse clears is on from a rise until it lapses. Assumes nothing.
-use Prim.Native.Nat.{ℕ, zero, suc}
+use Prim.Native.Nat.{ℕ, zero, suc, ◌^◌, ◌≤◌}
 use mathlib.Core.Path.{◌≡◌, refl, sym, ap, ap₂, ◌∙◌}
 use mathlib.Core.Bool.{Bool, true, false, not, ◌&&◌, ◌||◌, cond}
 use mathlib.Core.List.{List, [], ◌∷◌}
@@ -7,17 +7,18 @@ use lib.Dec.{T}
 use lib.ListN.{drop}
 use lib.Ieee.{Float, binary64, sub, le}
 use lib.Ieee.Fits.{and_l, and_r}
-use Rattle.reals.specs.Constants.{plus_zero}
+use Rattle.reals.specs.Constants.{plus_zero, whole}
 use Rattle.reals.proofs.FloatOrder.{le_trans}
 use Rattle.reals.proofs.Times.{self_gap, minus_mono}
-use Rattle.reals.proofs.Truth.{table1, table2, table3, table4, is_true, holds, fails}
+use Rattle.reals.proofs.Truth.{table1, table2, table3, table4, is_true, or_r, holds, fails}
+use Rattle.logical.specs.Timer.{timer_output_left}
 use Rattle.past.specs.Past.{some, every, first, rises, risen, run_start, latched}
-use Rattle.past.specs.Runs.{time_of, lapses, lapsed, within, since_rise}
+use Rattle.past.specs.Runs.{time_of, since_time, lapses, lapsed, within, since_rise, run_on_timer, WholeSeconds}
 use Rattle.past.specs.Stepped.{in_order}
 use Rattle.past.proofs.Laws.{rises_step, latched_step, latched_none}
 use Rattle.past.proofs.RunLaws.{last_rise, start_step, start_time_lem}
 use Rattle.past.proofs.Stepped.{order_before, order_here, time_here, finite_here}
-use Rattle.past.proofs.ElapsedLaws.{rise_time}
+use Rattle.past.proofs.ElapsedLaws.{order_kept, earlier, whole_order, seconds_left, rise_first, rise_time}
 
 every_not : (n : ℕ) (f : ℕ → Bool) → every n (λ k. not (f k)) ≡ not (some n f)
 unfolding every some
@@ -152,3 +153,48 @@ module _ {A : Type 0} (time : A → Float) (u : List A → Bool) (e : u [] ≡ f
 
       pub within_elapsed : (h : List A) → T (in_order time h) → within time n u h ≡ (risen u h && not (le n (since_rise time u h)))
       within_elapsed h o = rw (within_is h, lapsed_elapsed h o) refl
+
+      -- ---- what is left
+      no_rise : (b : Bool) → T (not b) → b ≡ false
+      no_rise true t = absurd t
+      no_rise false t = refl
+
+      -- while u does not rise, its nearest rise stays
+      rise_kept : (k : ℕ) (h : List A) → T (every k (λ j. not (rises u (drop j h)))) → last_rise time u e h ≡ last_rise time u e (drop k h)
+      unfolding every
+      rise_kept zero h t = refl
+      rise_kept (suc k) [] t = refl
+      rise_kept (suc k) (x ∷ h) t =
+          let later = every k (λ j. not (rises u (drop {A = A} j h))) in
+          rw (sym (rises_step u e x h) ∙ no_rise (rises u (x ∷ h)) (and_l (not (rises u (x ∷ h))) later t)) (rise_kept k h (and_r (not (rises u (x ∷ h))) later t))
+
+      risen_on : (k : ℕ) (h : List A) → T (risen u (drop k h)) → T (risen u h)
+      risen_on zero h t = t
+      risen_on (suc k) [] t = t
+      risen_on (suc k) (x ∷ h) t = rw (risen_step x h) (or_r (u (x ∷ h) && not (u h)) (risen u h) (risen_on k h t))
+
+      run_on_is : (h : List A) → T (in_order time h) → T (risen u h)
+          → run_on_timer time n u h ≡ record { passed = le n (sub binary64 (time_of time h) (last_rise time u e h)); elapsed = sub binary64 (time_of time h) (last_rise time u e h) }
+      run_on_is [] o t = absurd (fails (risen u []) risen_none t)
+      run_on_is (x ∷ h) o t =
+          rw (lapsed_here (x ∷ h) o, is_true (risen u (x ∷ h)) t, since_rise_step x h, go (u (x ∷ h) && not (u h)) (risen u h) (rw (risen_step x h) at t)) refl
+        where
+          go : (r q : Bool) → T (r || q) → cond (not r && q) (sub binary64 (time x) (last_rise time u e h)) plus_zero ≡ sub binary64 (time x) (cond r (time x) (last_rise time u e h))
+          go true q t = sym (self_gap (time x) (finite_here time x h o))
+          go false true t = refl
+          go false false t = absurd t
+
+      -- where u has risen and rises on none of the last k rows, in whole seconds: it has lapsed here exactly if the time since k rows ago is at least what was left then
+      module _ (m : ℕ) (M : m ≤ 2 ^ 53) (N : n ≡ whole m) (k : ℕ) (h : List A) (known : T (risen u (drop k h))) (none : T (every k (λ j. not (rises u (drop j h)))))
+          (o : T (in_order time h)) (w : WholeSeconds time h) where
+        pub run_on_left : lapsed time n u h ≡ le (timer_output_left (run_on_timer time n u (drop k h)) n) (since_time time k h)
+        run_on_left =
+            let first = w (run_start u h) in
+            let then = w k in
+            let here = w 0 in
+            let start : last_rise time u e h ≡ last_rise time u e (drop k h) = rise_kept k h none in
+            let began : last_rise time u e h ≡ whole first.0 = sym (start_time_lem time u e h) ∙ first.1.1 in
+            let ordered : T (le (last_rise time u e h) (time_of time (drop k h))) = rw start (rise_first time u e (drop k h) (order_kept time k h o)) in
+            rw (lapsed_here h o, is_true (risen u h) (risen_on k h known), run_on_is (drop k h) (order_kept time k h o) known, ← start)
+            (seconds_left m first.0 then.0 here.0 M here.1.0 (whole_order first.0 then.0 _ _ first.1.0 then.1.0 began then.1.1 ordered)
+            (whole_order then.0 here.0 _ _ then.1.0 here.1.0 then.1.1 here.1.1 (earlier time k h o)) n (last_rise time u e h) (time_of time (drop k h)) (time_of time h) N began then.1.1 here.1.1)

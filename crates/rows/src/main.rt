@@ -136,13 +136,11 @@ fn play(
 // Whether the arguments ask that stage 2 keeps to its hour; None where they ask for what is not known.
 fn asked(rt: &impl Env) -> Option<bool> {
     let mut word = [0; 16];
-    if let Err(FillError::NotPresent) = rt.arg(1, &mut word) {
-        return Some(false);
-    }
     let Err(FillError::NotPresent) = rt.arg(2, &mut word) else {
         return None;
     };
     match rt.arg(1, &mut word) {
+        Err(FillError::NotPresent) => Some(false),
         Ok(n) if word[..n].eq(b"keep-hour".as_slice()) => Some(true),
         _ => None,
     }

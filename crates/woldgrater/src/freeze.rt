@@ -26,7 +26,7 @@ pub struct FreezeGiven {
 }
 
 // The state of a start, before any row.
-// As the Rust starts where the word is 0, and else so that stage 2 keeps to its hour.
+// Where the word is 0 it is the Rust's start; with any other word stage 2 keeps to its hour.
 #[tactic(auto, unfolding(block_words::specs::Flags::word_flag))]
 pub fn woldgrater_freeze_start(keeps_hour: u64) -> FreezeWords
     ensures { result ≡ freeze_words (freeze_start (word_flag keeps_hour)) }
