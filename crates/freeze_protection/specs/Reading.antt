@@ -61,8 +61,8 @@ stage3_call h = passed_for fifteen_minutes (cold cold_stage2) h || passed_for fi
 unfoldable pub end_of_hour : Past → Bool
 end_of_hour h = rises (passed_for hour holding) h
 
--- end of hour, where stage 2 keeps to its hour (Guideline 36): let r be the nearest row up to here at which the hold came on; here is the first row after r whose time
--- minus the time of r is 3600 or more, however warm it is there and whatever the hold has done since r
+-- end of hour, where stage 2 keeps to its hour (Guideline 36): of the rows after r, where the hold last came on, here is the first by which the hour is over, its time
+-- less that of r being 3600 or more. Neither the temperature is asked, nor what the hold has done since r
 unfoldable pub end_of_hour_kept : Past → Bool
 end_of_hour_kept h = lapses time_of_row hour holding h
 
