@@ -5,6 +5,7 @@ use Rattle.std.specs.Float.Ieee.{round}
 use Rattle.logical.specs.Run.{run}
 use Rattle.past.specs.Whole.{Told}
 use Rattle.freeze_protection.specs.declared.types.FreezeRow.{FreezeRow}
+use Rattle.freeze_protection.specs.declared.types.FreezeState.{FreezeState}
 use Rattle.freeze_protection.specs.declared.types.FreezeSignals.{FreezeSignals}
 use Rattle.freeze_protection.specs.Signals.{freeze_signals}
 use Rattle.freeze_protection.specs.Step.{freeze_fresh}
@@ -36,7 +37,7 @@ pub record FreezeOthers : Type 0 where
 
 -- `others` has the open fields of the row at each time
 module _ (others : ℕ → FreezeOthers) where
-  -- with times in parts of a second, of which there are so many to a second
+  -- a row whose time is in parts of a second, so many to a second
   abbrev pub freeze_row_in : ℕ → Written → FreezeRow
   freeze_row_in parts w =
       let o = others w.time in
@@ -55,16 +56,20 @@ module _ (others : ℕ → FreezeOthers) where
         mixed_air_temperature = kelvin 30015;
       }
 
-  abbrev pub freeze_row_of : Written → FreezeRow
-  freeze_row_of = freeze_row_in 1
+  -- the stage, or the refusal, at each row of a run from a start, and a signal
+  module _ (start : FreezeState) (parts : ℕ) where
+    unfoldable pub stages_from : List Written → List (Told ℕ)
+    stages_from rows = run freeze_told freeze_returned start (map (freeze_row_in parts) rows)
 
-  -- the stage, or the refusal, at each row of a run from a fresh state
-  unfoldable pub stages : List Written → List (Told ℕ)
-  stages rows = run freeze_told freeze_returned freeze_fresh (map freeze_row_of rows)
+    unfoldable pub signalled_from : (FreezeSignals → Bool) → List Written → List Bool
+    signalled_from f rows = run (λ state row. f (freeze_signals state row)) freeze_returned start (map (freeze_row_in parts) rows)
 
-  -- a signal at each row of a run
-  unfoldable pub signalled : (FreezeSignals → Bool) → List Written → List Bool
-  signalled f rows = run (λ state row. f (freeze_signals state row)) freeze_returned freeze_fresh (map freeze_row_of rows)
+  -- the same from a fresh state, with times in seconds
+  abbrev pub stages : List Written → List (Told ℕ)
+  stages = stages_from freeze_fresh 1
+
+  abbrev pub signalled : (FreezeSignals → Bool) → List Written → List Bool
+  signalled = signalled_from freeze_fresh 1
 
 -- cold at 277.55 (lesThr)
 abbrev pub is_cold : FreezeSignals → Bool

@@ -1,21 +1,18 @@
 -- Freeze rows from the start in which stage 2 keeps to its hour, with times in tenths of a second: one table, an entry a case.
--- proofs/KeptHourTable.antt has the one fact that covers it.
+-- proofs/Table.antt has the one fact that covers it.
 use Rattle.std.specs.Prelude.{ℕ, ◌≡◌, Bool, true, false, List, [], ◌∷◌, map}
-use Rattle.logical.specs.Run.{run}
 use Rattle.past.specs.Whole.{Told}
-use Rattle.freeze_protection.specs.Signals.{freeze_signals}
 use Rattle.freeze_protection.specs.Step.{freeze_start}
-use Rattle.freeze_protection.specs.Told.{freeze_told, freeze_returned}
 use Rattle.cases.specs.Words.{taken}
-use Rattle.cases.specs.Freeze.{Written, FreezeOthers, freeze_row_in, at, reset_at, is_held}
+use Rattle.cases.specs.Freeze.{Written, FreezeOthers, at, reset_at, stages_from, signalled_from, is_held}
 
 module _ (others : ℕ → FreezeOthers) where
   -- the stage, or the refusal, at each row; and the hold of stage 2
-  unfoldable pub stages_kept : List Written → List (Told ℕ)
-  stages_kept rows = run freeze_told freeze_returned (freeze_start true) (map (freeze_row_in others 10) rows)
+  abbrev pub stages_kept : List Written → List (Told ℕ)
+  stages_kept = stages_from others (freeze_start true) 10
 
-  unfoldable pub held_kept : List Written → List Bool
-  held_kept rows = run (λ state row. is_held (freeze_signals state row)) freeze_returned (freeze_start true) (map (freeze_row_in others 10) rows)
+  abbrev pub held_kept : List Written → List Bool
+  held_kept = signalled_from others (freeze_start true) 10 is_held
 
 -- `o` has, for each time, the fields that a case leaves open; they are any finite numbers
 pub record KeptHourCases : Type 0 where
