@@ -1,5 +1,5 @@
 -- What each stage commands, for every state and row. Assumes nothing.
-use Prim.Native.Nat.{ℕ}
+use Prim.Native.Nat.{ℕ, ◌≤◌}
 use native.Mathlib.Omega.{arith}
 use mathlib.Core.Path.{◌≡◌, refl}
 use mathlib.Core.Bool.{Bool, true, false, ◌&&◌, ◌||◌, cond}
@@ -26,6 +26,18 @@ two_is true b c e = absurd (omega arith)
 two_is false true c e = (refl, refl)
 two_is false false true e = absurd (omega arith)
 two_is false false false e = absurd (omega arith)
+
+-- a stage is at most 3
+number_at_most_3 : (a b c : Bool) → stage_number a b c ≤ 3
+unfolding stage_number
+number_at_most_3 true b c = omega arith
+number_at_most_3 false true c = omega arith
+number_at_most_3 false false true = omega arith
+number_at_most_3 false false false = omega arith
+
+pub stage_at_most_3 : (state : FreezeState) (row : FreezeRow) → (freeze_signals state row).stage ≤ 3
+unfolding freeze_signals
+stage_at_most_3 state row = number_at_most_3 _ _ _
 
 -- the number is 3 exactly where the stage 3 latch is on
 pub three_exactly : (a b c : Bool) → a ≡ eqb (cond a 3 (cond b 2 (cond c 1 0))) 3

@@ -21,10 +21,13 @@ refusal_number BadlyFormed = 5
 refusal_number NoKind = 6
 refusal_number NoRoom = 10
 
--- 1 if a number is not finite; 2 if the time's sign bit is set, so −0.0 too; 3 if the time is below the last accepted time. Equal times are taken.
+-- 1 if a number is not finite; 2 if the time's sign bit is set, so −0.0 too; 3 if the time falls
+abbrev pub judge_by : Bool → Float → Bool → Verdict
+judge_by finite time falling = cond (not finite) (Err NotFinite) (cond (is_sign_negative time) (Err NegativeTime) (cond falling (Err FallingTime) (Ok tt)))
+
+-- it falls if it is below the last accepted time. Equal times are taken
 unfoldable pub judge : Bool → Float → Option Float → Verdict
-judge finite time last =
-    cond (not finite) (Err NotFinite) (cond (is_sign_negative time) (Err NegativeTime) (cond (seen_above last time) (Err FallingTime) (Ok tt)))
+judge finite time last = judge_by finite time (seen_above last time)
 
 -- the verdict with one refusal more: it is given where it fits and none of those before it does
 unfoldable pub verdict_or_refused : Verdict → Bool → Refusal → Verdict

@@ -2,7 +2,7 @@
 #![tactic(auto)]
 
 ghost use Rattle.std.specs.Prelude.{◌≡◌};
-ghost use Rattle.refusals.specs.Refusals.{refusal_number, judge};
+ghost use Rattle.refusals.specs.Refusals.{refusal_number, judge_by, judge};
 
 use reals::seen::above;
 use reals::sign::is_sign_negative;
@@ -43,10 +43,10 @@ impl Refusal {
     }
 }
 
-// The first refusal that fits a row at a time, after rows that were accepted up to the last time: `finite` says that all its numbers are finite.
-#[tactic(auto, unfolding(crate::specs::Refusals::judge))]
-pub fn judge(finite: bool, time: f64, last: Option<f64>) -> Verdict
-    ensures { result ≡ judge finite time last }
+// The first refusal that fits a row at a time: `finite` says that all its numbers are finite, `falling` that the time is below a last accepted one.
+#[tactic(auto, unfolding(crate::specs::Refusals::judge_by))]
+pub fn judge_by(finite: bool, time: f64, falling: bool) -> Verdict
+    ensures { result ≡ judge_by finite time falling }
 {
     if !finite {
         return Err(Refusal::NotFinite);
@@ -54,8 +54,16 @@ pub fn judge(finite: bool, time: f64, last: Option<f64>) -> Verdict
     if is_sign_negative(time) {
         return Err(Refusal::NegativeTime);
     }
-    if above(last, time) {
+    if falling {
         return Err(Refusal::FallingTime);
     }
     Ok(())
+}
+
+// The same after rows that were accepted up to the last time.
+#[tactic(auto, unfolding(crate::specs::Refusals::judge))]
+pub fn judge(finite: bool, time: f64, last: Option<f64>) -> Verdict
+    ensures { result ≡ judge finite time last }
+{
+    judge_by(finite, time, above(last, time))
 }

@@ -75,7 +75,7 @@ verdict_is x h g =
     (λ e. is_full_reads time_of_row pressure_of_row h (good_window h g) x.time (in_time x h (judged_order x h (good_order h g) e))))
   where
     go : (v : Verdict) → (v ≡ Ok tt → moving_average_is_full (moving_average_of time_of_row pressure_of_row h) x.time ≡ window_is_full (map time_of_row h) x.time)
-        → after_judged v x (moving_average_is_full (moving_average_of time_of_row pressure_of_row h) x.time) ≡ after_judged v x (window_is_full (map time_of_row h) x.time)
+        → after_judged v x.alarm (moving_average_is_full (moving_average_of time_of_row pressure_of_row h) x.time) ≡ after_judged v x.alarm (window_is_full (map time_of_row h) x.time)
     go (Ok tt) f = rw (f refl) refl
     go (Err r) f = unfold after_judged verdict_or_refused in refl
 

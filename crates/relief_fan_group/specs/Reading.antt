@@ -58,4 +58,4 @@ relief_reading h = record { mean = mean h; up = up_pulse h; down = down_pulse h 
 
 -- the refusal that fits a row after these accepted rows: the list alone tells it, refusal 11 by the row's own alarms, 4 by the different times of the rows before
 unfoldable pub verdict_of : Past → ReliefRow → Verdict
-verdict_of h x = after_judged (verdict_after time_of_row numbers_finite h x) x (window_is_full (map time_of_row h) x.time)
+verdict_of h x = after_judged (verdict_after time_of_row numbers_finite h x) x.alarm (window_is_full (map time_of_row h) x.time)

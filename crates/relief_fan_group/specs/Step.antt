@@ -92,6 +92,11 @@ relief_next blocks row signals =
 unfoldable pub signals_at : ReliefState → ReliefRow → ReliefSignals
 signals_at state row = relief_signals state.blocks row (moving_average_output state.window row.time row.pressure)
 
+-- the state after an accepted row: the window and every block one row further
+abbrev pub relief_after : ReliefState → ReliefRow → ReliefState
+relief_after state row =
+    record { window = moving_average_update state.window row.time row.pressure; blocks = relief_next state.blocks row (signals_at state row) }
+
 -- a row's answer: the commands of an accepted row, or the refusal; and beside it the state for the next row
 abbrev pub ReliefAnswer : Type 0
 ReliefAnswer = Result ReliefCommands Refusal
@@ -101,9 +106,7 @@ ReliefStep = Step ReliefCommands ReliefState
 
 -- a row that is accepted has its commands and moves the state on; a refused one has the refusal, no command, and hands the old state back
 unfoldable pub step_by : Verdict → ReliefState → ReliefRow → ReliefStep
-step_by verdict state row =
-    let signals = signals_at state row in
-    stepped verdict (relief_commands row signals) (record { window = moving_average_update state.window row.time row.pressure; blocks = relief_next state.blocks row signals }) state
+step_by verdict state row = stepped verdict (relief_commands row (signals_at state row)) (relief_after state row) state
 
 -- a row: what its verdict makes of it
 unfoldable pub relief_row : ReliefState → ReliefRow → ReliefStep

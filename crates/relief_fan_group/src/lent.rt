@@ -1,6 +1,7 @@
 // The row on a window whose arrays the caller lends, so that a row copies none of them. Helpers: the public operation is `relief_row`.
 ghost use Rattle.std.specs.Prelude.{◌≡◌};
-ghost use Rattle.relief_fan_group.specs.Step.{relief_fresh, relief_row};
+ghost use Rattle.relief_fan_group.specs.Step.{relief_fresh, signals_at, relief_after, relief_row};
+ghost use Rattle.relief_fan_group.specs.Commands.{relief_commands};
 ghost use Rattle.relief_fan_group.specs.Lent.{held_of, lent_state, lent_step};
 
 use crate::commands::relief_commands;
@@ -30,8 +31,34 @@ pub fn held_fresh() -> ReliefHeld
     }
 }
 
+// Helper: the commands of an accepted row, and the state after it, with the window's arrays changed where they stand.
+#[tactic(auto, unfolding(crate::specs::Step::signals_at))]
+pub fn relief_accepted_lent(
+    held: ReliefHeld,
+    times: &mut [f64; 512],
+    integrals: &mut [f64; 512],
+    row: ReliefRow,
+) -> (ReliefCommands, ReliefHeld)
+    ensures commands { result.0 ≡ relief_commands row (signals_at (lent_state held times.old integrals.old) row) }
+    ensures after { lent_state result.1 times.new integrals.new
+        ≡ relief_after (lent_state held times.old integrals.old) row }
+{
+    let average = held
+        .integrator
+        .output(times, integrals, row.time, row.pressure);
+    let signals = relief_signals(held.blocks, row, average);
+    let integrator = held
+        .integrator
+        .update(times, integrals, row.time, row.pressure);
+    let next = ReliefHeld {
+        integrator,
+        blocks: relief_next(held.blocks, row, signals),
+    };
+    (relief_commands(row, signals), next)
+}
+
 // Helper: what `relief_row` gives, with the window's arrays changed where they stand.
-#[tactic(auto, unfolding(crate::specs::Step::relief_row, crate::specs::Step::step_by, crate::specs::Step::signals_at))]
+#[tactic(auto, unfolding(crate::specs::Step::relief_row, crate::specs::Step::step_by))]
 pub fn relief_row_lent(
     held: ReliefHeld,
     times: &mut [f64; 512],
@@ -46,15 +73,9 @@ pub fn relief_row_lent(
     let mut state = held;
     let answer = match relief_verdict(held.blocks, row, full) {
         Ok(()) => {
-            let average = held
-                .integrator
-                .output(times, integrals, row.time, row.pressure);
-            let signals = relief_signals(held.blocks, row, average);
-            state.integrator = held
-                .integrator
-                .update(times, integrals, row.time, row.pressure);
-            state.blocks = relief_next(held.blocks, row, signals);
-            Ok(relief_commands(row, signals))
+            let (commands, next) = relief_accepted_lent(held, times, integrals, row);
+            state = next;
+            Ok(commands)
         }
         Err(refusal) => Err(refusal),
     };

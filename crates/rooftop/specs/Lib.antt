@@ -1,0 +1,5 @@
+-- The joined sequence, to be read in this order: each sequence's row, what a joined row is refused for, the step; then how the past is read.
+pub mod Wiring
+pub mod Verdict
+pub mod Step
+pub mod Lent
