@@ -1,8 +1,10 @@
--- The laws that the proofs cite: of tests, of the order of floats, of numbers between limits, of times, of whole numbers, and of loops over four fans.
+-- The laws that the proofs cite: of tests, of the order of floats, of numbers between limits and within bounds, of times, of whole numbers,
+-- and of loops over four fans.
 pub mod Truth
 pub mod FloatOrder
 pub mod Round
 pub mod Between
+pub mod Bounded
 pub mod Times
 pub mod Signs
 pub mod WholeNumbers
