@@ -3,33 +3,26 @@
 use Rattle.std.specs.Prelude.{Ok, Err}
 use Prim.Native.Nat.{ℕ, suc, ◌<◌}
 use mathlib.Core.Path.{◌≡◌, refl, ap, ◌∙◌}
-use mathlib.Core.Bool.{Bool, true, false, not, ◌&&◌, true≢false}
-use mathlib.Core.List.{List, [], ◌∷◌, map, reverse}
+use mathlib.Core.Bool.{Bool}
+use mathlib.Core.List.{List, [], ◌∷◌, reverse}
 use lib.Dec.{T}
+use lib.IntN.{ℤ}
 use lib.ListN.{length, get_or, take}
-use lib.Ieee.Fits.{and_i, and_l, and_r}
+use lib.Ieee.Fits.{and_l}
 use lib.Ieee.Scale.{finite}
-use Rattle.reals.specs.Sign.{is_time}
-use Rattle.reals.proofs.FloatOrder.{le→not-lt}
-use Rattle.refusals.specs.declared.Refusal.TheVariants.{AlarmOutOfRange, WindowFull}
 use Rattle.refusals.specs.Refusals.{Verdict}
-use Rattle.refusals.specs.Refusals.{verdict_or_refused}
-use Rattle.refusals.proofs.Accepting.{neither_fits}
-use Rattle.past.specs.Stepped.{not_before, in_order}
+use Rattle.past.specs.Stepped.{in_order}
 use Rattle.past.specs.Acceptance.{verdict_after}
 use Rattle.logical.specs.Run.{run}
 use Rattle.past.specs.Whole.{Told, told_by, next_by, state_after, read_all}
 use Rattle.past.specs.Whole as whole
-use Rattle.past.proofs.Stepped.{order_here, time_here}
 use Rattle.past.proofs.Whole.{good_accepted, state_is, run_reads, read_at_lem, read_newest}
-use Rattle.past.proofs.Sequence.{in_order_lem, told_where_accepted}
-use Rattle.moving_average.specs.Past.{below_last, time_accepted, accepted, window_is_full, moving_average_of}
+use Rattle.past.proofs.Sequence.{told_where_accepted}
+use Rattle.moving_average.specs.Past.{moving_average_of}
 use Rattle.moving_average.specs.State.{moving_average_is_full}
-use Rattle.moving_average.proofs.Accepted.{accepted_cons}
-use Rattle.moving_average.proofs.Reading.{is_full_reads}
 use Rattle.relief_fans.specs.Alarms.{alarms_fit}
 use Rattle.relief_fan_group.specs.declared.types.ReliefRow.{ReliefRow}
-use Rattle.relief_fan_group.specs.Verdict.{numbers_finite, after_judged, relief_verdict}
+use Rattle.relief_fan_group.specs.Verdict.{numbers_finite, relief_verdict}
 use Rattle.relief_fan_group.specs.Signals.{pressure_control, relief_signals}
 use Rattle.relief_fan_group.specs.Commands.{relief_commands}
 use Rattle.relief_fan_group.specs.Step.{relief_fresh, relief_row, signals_at, step_by}
@@ -37,74 +30,48 @@ use Rattle.relief_fan_group.specs.Reading.{Past, time_of_row, pressure_of_row, R
 use Rattle.relief_fan_group.specs.Blocks.{blocks_of, signals_of}
 use Rattle.relief_fan_group.specs.Told.{pulses_told, relief_told, relief_returned}
 use Rattle.relief_fan_group.specs.Left.{timers_of, timers_told, timers_read}
+use Rattle.relief_fan_group.proofs.Windowed as windowed
 use Rattle.relief_fan_group.proofs.Blocks.{state_of, signals_are, fresh_is, up_pulse_lem, down_pulse_lem, last_reads, timers_read_lem}
 
 -- ---- what holds of the accepted rows: their times are in order, and the window had room for each
-abbrev pub good : Past → Bool
-good h = in_order time_of_row h && accepted (map time_of_row h)
-
-pub good_order : (h : Past) → T (good h) → T (in_order time_of_row h)
-good_order h g = and_l (in_order time_of_row h) (accepted (map time_of_row h)) g
-
-good_window : (h : Past) → T (good h) → T (accepted (map time_of_row h))
-good_window h g = and_r (in_order time_of_row h) (accepted (map time_of_row h)) g
-
-time_finite : (x : ReliefRow) → T (numbers_finite x) → T (finite x.time)
+pub time_finite : (x : ReliefRow) → T (numbers_finite x) → T (finite x.time)
 unfolding numbers_finite
 time_finite x t = and_l (finite x.time) (finite x.pressure) t
 
--- refusals 1 to 3 do not fit: the times stay in order
-judged_order : (x : ReliefRow) (h : Past) → T (in_order time_of_row h) → verdict_after time_of_row numbers_finite h x ≡ Ok tt → T (in_order time_of_row (x ∷ h))
-judged_order = in_order_lem time_of_row numbers_finite time_finite
+abbrev pub alarm_of_row : ReliefRow → List ℤ
+alarm_of_row x = x.alarm
 
--- and that is all that the window asks of the time
-in_time : (x : ReliefRow) (h : Past) → T (in_order time_of_row (x ∷ h)) → T (time_accepted (map time_of_row h) x.time)
-in_time x h o =
-    and_i (is_time x.time) (not (below_last (map time_of_row h) x.time)) (time_here time_of_row x h o)
-    (rw (above h (order_here time_of_row x h o)) tt)
-  where
-    above : (h : Past) → T (not_before time_of_row x.time h) → below_last (map time_of_row h) x.time ≡ false
-    above [] l = refl
-    above (y ∷ h) l = le→not-lt x.time y.time l
+abbrev pub good : Past → Bool
+good = windowed.good time_of_row pressure_of_row alarm_of_row numbers_finite time_finite
 
--- ---- the verdict on the state of a past is that of the list
+pub good_order : (h : Past) → T (good h) → T (in_order time_of_row h)
+good_order = windowed.good_order time_of_row pressure_of_row alarm_of_row numbers_finite time_finite
+
+-- the verdict on the state of a past is that of the list
 verdict_is : (x : ReliefRow) (h : Past) → T (good h) → relief_verdict (blocks_of h) x (moving_average_is_full (moving_average_of time_of_row pressure_of_row h) x.time) ≡ verdict_of h x
-unfolding relief_verdict verdict_of verdict_after
-verdict_is x h g =
-    rw (last_reads h) (go (verdict_after time_of_row numbers_finite h x)
-    (λ e. is_full_reads time_of_row pressure_of_row h (good_window h g) x.time (in_time x h (judged_order x h (good_order h g) e))))
-  where
-    go : (v : Verdict) → (v ≡ Ok tt → moving_average_is_full (moving_average_of time_of_row pressure_of_row h) x.time ≡ window_is_full (map time_of_row h) x.time)
-        → after_judged v x.alarm (moving_average_is_full (moving_average_of time_of_row pressure_of_row h) x.time) ≡ after_judged v x.alarm (window_is_full (map time_of_row h) x.time)
-    go (Ok tt) f = rw (f refl) refl
-    go (Err r) f = unfold after_judged verdict_or_refused in refl
+unfolding relief_verdict verdict_of
+verdict_is x h g = windowed.verdict_is time_of_row pressure_of_row alarm_of_row numbers_finite time_finite x h g (blocks_of h).last (last_reads h)
 
 -- an accepted row keeps all that: no refusal fits it
 module _ (x : ReliefRow) (h : Past) (e : verdict_of h x ≡ Ok tt) where
-  abbrev judged : Verdict
-  judged = verdict_after time_of_row numbers_finite h x
-
-  abbrev out_of_range : Bool
-  out_of_range = not (alarms_fit x.alarm)
-
-  ranged : (verdict_or_refused judged out_of_range AlarmOutOfRange ≡ Ok tt) × (window_is_full (map time_of_row h) x.time ≡ false)
-  unfolding verdict_of after_judged
-  ranged = neither_fits (verdict_or_refused judged out_of_range AlarmOutOfRange) (window_is_full (map time_of_row h) x.time) WindowFull e
-
-  pub accepted_judged : judged ≡ Ok tt
-  accepted_judged = (neither_fits judged out_of_range AlarmOutOfRange ranged.0).0
+  pub accepted_judged : verdict_after time_of_row numbers_finite h x ≡ Ok tt
+  unfolding verdict_of
+  accepted_judged = windowed.accepted_judged time_of_row pressure_of_row alarm_of_row numbers_finite time_finite x h e
 
   pub accepted_fits : T (alarms_fit x.alarm)
-  accepted_fits = go (alarms_fit x.alarm) (neither_fits judged out_of_range AlarmOutOfRange ranged.0).1
-    where
-      go : (b : Bool) → not b ≡ false → T b
-      go true e = tt
-      go false e = absurd (true≢false e)
+  unfolding verdict_of
+  accepted_fits = windowed.accepted_fits time_of_row pressure_of_row alarm_of_row numbers_finite time_finite x h e
 
 good_more : (x : ReliefRow) (h : Past) → T (good h) → verdict_of h x ≡ Ok tt → T (good (x ∷ h))
-good_more x h g e =
-    let o = judged_order x h (good_order h g) (accepted_judged x h e) in
-    and_i (in_order time_of_row (x ∷ h)) (accepted (map time_of_row (x ∷ h))) o (accepted_cons x.time (map time_of_row h) (in_time x h o) (ranged x h e).1 (good_window h g))
+unfolding verdict_of
+good_more = windowed.good_more time_of_row pressure_of_row alarm_of_row numbers_finite time_finite
+
+good_none : T (good [])
+good_none = windowed.good_none time_of_row pressure_of_row alarm_of_row numbers_finite time_finite
+
+-- the accepted rows of every list are so
+pub accepted_good : (l : List ReliefRow) → T (good (whole.accepted verdict_of l))
+accepted_good l = good_accepted verdict_of good good_none good_more l
 
 -- ---- the answer and the returned state of a row after the past h
 -- the signals of an accepted row are the readings
@@ -128,14 +95,6 @@ moves x h g = ap (λ (v : Verdict). (step_by v (state_of h) x).state) (verdict_i
     go : (v : Verdict) → (step_by v (state_of h) x).state ≡ next_by v (state_of (x ∷ h)) (state_of h)
     go (Ok tt) = unfold step_by in (rw (signals_are x h) (unfold blocks_of moving_average_of in refl))
     go (Err r) = unfold step_by in refl
-
-good_none : T (good [])
-unfolding accepted
-good_none = tt
-
--- the accepted rows of every list are so
-pub accepted_good : (l : List ReliefRow) → T (good (whole.accepted verdict_of l))
-accepted_good l = good_accepted verdict_of good good_none good_more l
 
 -- the whole list at once: the answers of the run are what the list tells at each place, in order
 pub relief_demand_3 : (rows : List ReliefRow) → run relief_told relief_returned relief_fresh rows ≡ read_all verdict_of relief_reading [] rows

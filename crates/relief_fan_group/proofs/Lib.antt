@@ -2,6 +2,7 @@
 pub mod Nearest
 pub mod Pulses
 pub mod Blocks
+pub mod Windowed
 pub mod Demand3
 pub mod Alarms
 pub mod LastAlarms

@@ -1,5 +1,5 @@
 -- The relief pulses read off the past, with no state. A past holds the accepted rows up to here, the newest first.
-use Rattle.std.specs.Prelude.{Bool, List, [], ◌∷◌, map, Float}
+use Rattle.std.specs.Prelude.{Bool, List, [], ◌∷◌, map, Float, ℤ}
 use Rattle.std.specs.Float.{binary64}
 use Rattle.std.specs.Float.Ieee.{add, sub, lt}
 use Rattle.reals.specs.Constants.{plus_zero}
@@ -56,6 +56,12 @@ pub record ReliefReading : Type 0 where
 unfoldable pub relief_reading : Past → ReliefReading
 relief_reading h = record { mean = mean h; up = up_pulse h; down = down_pulse h }
 
--- the refusal that fits a row after these accepted rows: the list alone tells it, refusal 11 by the row's own alarms, 4 by the different times of the rows before
+-- the refusal that fits a row after these accepted rows, of any sequence that has this window: the list alone tells it, refusal 11 by the row's own alarms, 4 by the
+-- different times of the rows before
+module _ {R : Type 0} (time : R → Float) (alarm : R → List ℤ) (all_finite : R → Bool) where
+  abbrev pub verdict_windowed : List R → R → Verdict
+  verdict_windowed h x = after_judged (verdict_after time all_finite h x) (alarm x) (window_is_full (map time h) (time x))
+
+-- and of the relief fan group
 unfoldable pub verdict_of : Past → ReliefRow → Verdict
-verdict_of h x = after_judged (verdict_after time_of_row numbers_finite h x) x.alarm (window_is_full (map time_of_row h) x.time)
+verdict_of = verdict_windowed time_of_row (λ x. x.alarm) numbers_finite
