@@ -1,15 +1,21 @@
--- Numbers between limits, a NaN between limits, and sums and products that are numbers. Assumes nothing.
-use Prim.Native.Nat.{ℕ, ◌+◌, ◌-◌, ◌*◌}
-use mathlib.Core.Path.{◌≡◌, refl}
+-- Numbers between limits, a NaN between limits, and sums, products, differences and quotients that are numbers. Assumes nothing.
+use Prim.Native.Nat.{ℕ, zero, suc, ◌+◌, ◌-◌, ◌*◌}
+use native.Mathlib.Nat.{mul-pos, zero-mul}
+use native.Mathlib.Omega.{arith}
+use mathlib.Core.Path.{◌≡◌, refl, ap, ◌∙◌}
 use mathlib.Core.Bool.{Bool, true, false, not, ◌&&◌, beq, cond, true≢false}
-use lib.Dec.{T, ltb}
-use lib.Ieee.{Float, nan, inf, fin, Format, up, down, lt, le, is_nan, round, sum, add, mul, neg}
+use lib.Dec.{T, ltb, eqb-suc-zero}
+use lib.IntN.{pos}
+use lib.Ieee.{Float, nan, inf, fin, Format, binary64, up, down, lt, le, is_nan, round, sum, add, sub, mul, div, neg}
+use lib.Ieee.Fits.{down_pos}
+use lib.Ieee.Positive.{positive}
 use lib.Ieee.Scale.{finite}
+use Rattle.reals.specs.Constants.{plus_zero}
 use Rattle.reals.specs.Limits.{limit, clamp}
 use Rattle.reals.specs.Order.{greater, lesser}
 use Rattle.reals.specs.Switch.{switch}
 use Rattle.reals.proofs.FloatOrder.{le_numbers, lt→le, not-lt→le, le_refl, lt_nan}
-use Rattle.reals.proofs.Round.{plain, round_plain, neg_round}
+use Rattle.reals.proofs.Round.{plain, round_plain, neg_round, zero_is, zero_rounds}
 
 -- ---- the lesser of two
 -- it is at most the second, if that is a number, whatever the first is
@@ -55,8 +61,33 @@ pub limit_of_nan : (min max : Float) → limit nan min max ≡ nan
 unfolding limit switch
 limit_of_nan min max = simp ((lt_nan min).0, (lt_nan max).1)
 
+-- a number it puts between its limits
+pub limit_above : (x min max : Float) → is_nan x ≡ false → T (le min max) → T (le min (limit x min max))
+unfolding limit switch
+limit_above x min max number b = upper (lt x min) (not-lt→le x min number (le_numbers min max b).0)
+  where
+    lower : (l : Bool) (raised : Float) → T (le min raised) → T (le min (cond l max raised))
+    lower true raised h = b
+    lower false raised h = h
+
+    upper : (l : Bool) → (l ≡ false → T (le min x)) → T (le min (cond (lt max (cond l min x)) max (cond l min x)))
+    upper true f = lower (lt max min) min (le_refl min (le_numbers min max b).0)
+    upper false f = lower (lt max x) x (f refl)
+
+pub limit_below : (x min max : Float) → is_nan x ≡ false → T (le min max) → T (le (limit x min max) max)
+unfolding limit switch
+limit_below x min max number b = upper (lt x min)
+  where
+    lower : (l : Bool) (raised : Float) → (l ≡ false → T (le raised max)) → T (le (cond l max raised) max)
+    lower true raised f = le_refl max (le_numbers min max b).1
+    lower false raised f = f refl
+
+    upper : (l : Bool) → T (le (cond (lt max (cond l min x)) max (cond l min x)) max)
+    upper true = lower (lt max min) min (λ e. b)
+    upper false = lower (lt max x) x (not-lt→le max x (le_numbers min max b).1 number)
+
 -- between two finite numbers there is no infinity
-finite_between : (lo x hi : Float) → T (finite lo) → T (finite hi) → T (le lo x) → T (le x hi) → T (finite x)
+pub finite_between : (lo x hi : Float) → T (finite lo) → T (finite hi) → T (le lo x) → T (le x hi) → T (finite x)
 unfolding le
 finite_between nan x hi f g a b = absurd f
 finite_between (inf s) x hi f g a b = absurd f
@@ -115,3 +146,37 @@ add_number f (fin s m e) (fin t n d) h k = go (m * up e * down d) (n * up d * do
     go a b c =
         cond_number (beq s t) (round f s (a + b) c) (cond (ltb a b) (round f t (b - a) c) (round f (s && ltb b a) (a - b) c)) (round_number f s (a + b) c)
         (cond_number (ltb a b) (round f t (b - a) c) (round f (s && ltb b a) (a - b) c) (round_number f t (b - a) c) (round_number f (s && ltb b a) (a - b) c))
+
+-- ---- a difference and a quotient of a number and a finite number, the divisor above 0, are numbers
+pub sub_number : (f : Format) (x y : Float) → is_nan x ≡ false → T (finite y) → is_nan (sub f x y) ≡ false
+unfolding sub add neg is_nan
+sub_number f nan y h k = absurd (true≢false h)
+sub_number f (inf s) nan h k = absurd k
+sub_number f (inf s) (inf t) h k = absurd k
+sub_number f (inf s) (fin t n d) h k = refl
+sub_number f (fin s m e) nan h k = absurd k
+sub_number f (fin s m e) (inf t) h k = absurd k
+sub_number f (fin s m e) (fin t n d) h k = add_number f (fin s m e) (fin (not t) n d) tt refl
+
+pub div_number : (f : Format) (x y : Float) → is_nan x ≡ false → T (positive y) → is_nan (div f x y) ≡ false
+unfolding div is_nan
+div_number f nan y h k = absurd (true≢false h)
+div_number f (inf s) nan h k = absurd k
+div_number f (inf s) (inf t) h k = absurd k
+div_number f (inf s) (fin t n d) h k = refl
+div_number f (fin s m e) nan h k = absurd k
+div_number f (fin s m e) (inf t) h k = absurd k
+div_number f (fin s m e) (fin true n d) h k = absurd k
+div_number f (fin s m e) (fin false zero d) h k = absurd k
+div_number f (fin s m e) (fin false (suc n) d) h k = rw (eqb-suc-zero n) (round_number f (not (beq s false)) (m * up e * down d) (suc n * up d * down e))
+
+-- 0 times a finite number above 0 is 0
+zero_product : (x : Float) → T (lt (fin false 0 (pos 0)) x) → T (finite x) → mul binary64 (fin false 0 (pos 0)) x ≡ plus_zero
+unfolding lt mul
+zero_product nan h k = absurd k
+zero_product (inf s) h k = absurd k
+zero_product (fin true m e) h k = absurd h
+zero_product (fin false m e) h k = rw (zero-mul (m * up e)) (zero_rounds 0 (1 * down e) (mul-pos (omega arith) (down_pos e)))
+
+pub zero_times : (x : Float) → T (lt plus_zero x) → T (finite x) → mul binary64 plus_zero x ≡ plus_zero
+zero_times x h k = ap (λ (z : Float). mul binary64 z x) zero_is ∙ zero_product x (rw zero_is at h) k
