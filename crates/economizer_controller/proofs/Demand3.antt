@@ -2,7 +2,7 @@
 -- read off the accepted rows up to there. Assumes nothing.
 use Rattle.std.specs.Prelude.{Ok, Err}
 use Prim.Native.Nat.{ℕ, suc, ◌<◌}
-use mathlib.Core.Path.{◌≡◌, refl}
+use mathlib.Core.Path.{◌≡◌, refl, ap}
 use mathlib.Core.Bool.{Bool, true, false, ◌&&◌}
 use mathlib.Core.List.{List, [], ◌∷◌, reverse}
 use lib.Dec.{T}
@@ -19,15 +19,15 @@ use Rattle.logical.specs.declared.true_delay.TrueDelayState.{TrueDelayState}
 use Rattle.logical.specs.TrueFalseHold.{true_false_hold_output}
 use Rattle.logical.specs.TrueDelay.{true_delay_new, true_delay_output, true_delay_update}
 use Rattle.refusals.specs.Refusals.{Verdict}
-use Rattle.past.specs.Acceptance.{last_time}
+use Rattle.past.specs.Acceptance.{last_time, verdict_after}
 use Rattle.past.specs.Stepped.{stepped, in_order}
 use Rattle.logical.specs.Run.{run}
-use Rattle.past.specs.Whole.{Told, told_by, next_by, read_all}
+use Rattle.past.specs.Whole.{Told, told_by, next_by, state_after, accepted, read_all}
 use Rattle.past.proofs.LevelReading.{hysteresis_of, hysteresis_new_lem, hysteresis_output_lem, hysteresis_update_lem}
 use Rattle.past.proofs.HoldReading.{true_false_hold_of, true_false_hold_new_lem, true_false_hold_output_lem, true_false_hold_update_lem}
 use Rattle.past.proofs.DelayReading.{true_delay_of, true_delay_new_lem, true_delay_output_lem, true_delay_update_lem}
 use Rattle.past.proofs.Whole.{read_newest, read_at_lem}
-use Rattle.past.proofs.Sequence.{sequence_reads}
+use Rattle.past.proofs.Sequence.{SequenceReads, in_order_lem, accepted_in_order, sequence_reads}
 use Rattle.economizer_controller.specs.declared.types.EconomizerRow.{EconomizerRow}
 use Rattle.economizer_controller.specs.declared.types.EconomizerState.{EconomizerState}
 use Rattle.economizer_controller.specs.declared.types.EnableSignals.{EnableSignals}
@@ -186,12 +186,30 @@ time_finite x t = first (finite x.time) _ _ _ _ t
     first true b c d e t = tt
     first false b c d e t = t
 
--- for every list of rows
-pub economizer_demand_3 : (rows : List EconomizerRow) → run economizer_told economizer_returned economizer_fresh rows ≡ read_all verdict_of economizer_reading [] rows
+runs_read : SequenceReads verdict_of economizer_told economizer_returned economizer_fresh state_of economizer_reading
 unfolding economizer_verdict
-economizer_demand_3 =
+runs_read =
     sequence_reads time_of_row numbers_finite time_finite (λ s. s.last) (λ s x. reading_in (economizer_signals s x)) (λ s x. economizer_next s x (economizer_signals s x))
     economizer_told economizer_returned economizer_told_lem economizer_returned_lem economizer_fresh state_of economizer_reading fresh_is (λ h. refl) reads moves
+
+-- for every list of rows
+pub economizer_demand_3 : (rows : List EconomizerRow) → run economizer_told economizer_returned economizer_fresh rows ≡ read_all verdict_of economizer_reading [] rows
+economizer_demand_3 = runs_read.runs
+
+-- the last accepted time that the state after the rows l keeps, refused ones too, and the verdict on a row, are those that the list tells
+pub last_reads : (l : List EconomizerRow) → (state_after economizer_returned economizer_fresh l).last ≡ last_time time_of_row (accepted verdict_of l)
+last_reads l = ap (λ (s : EconomizerState). s.last) (runs_read.states l)
+
+pub verdict_reads : (x : EconomizerRow) (l : List EconomizerRow) → economizer_verdict (state_after economizer_returned economizer_fresh l) x ≡ verdict_of (accepted verdict_of l) x
+unfolding economizer_verdict verdict_after
+verdict_reads x l = rw (last_reads l)
+
+-- enable and delays among the signals of an accepted row, after the rows l, refused ones too, are those read off the accepted rows
+pub signals_read : (x : EconomizerRow) (l : List EconomizerRow) → verdict_of (accepted verdict_of l) x ≡ Ok tt
+    → reading_in (economizer_signals (state_after economizer_returned economizer_fresh l) x) ≡ economizer_reading (x ∷ accepted verdict_of l)
+signals_read x l e =
+    let h = accepted verdict_of l in
+    rw (runs_read.states l) (reads x h (in_order_lem time_of_row numbers_finite time_finite x h (accepted_in_order time_of_row numbers_finite time_finite l) e))
 
 -- and at every place of it: place i tells the refusal that fits row i, or what is read off the accepted ones of rows 0 to i
 pub economizer_demand_3_at : (other : Told EconomizerReading) (rows : List EconomizerRow) (i : ℕ) → i < length rows

@@ -2,18 +2,19 @@
 -- list alone tells, or else its stage is the one that is read off the accepted rows up to there. Assumes nothing.
 use Rattle.std.specs.Prelude.{Ok, Err}
 use Prim.Native.Nat.{ℕ, suc, ◌<◌}
-use mathlib.Core.Path.{◌≡◌, refl}
+use mathlib.Core.Path.{◌≡◌, refl, ap}
 use mathlib.Core.Bool.{Bool, true, false, ◌&&◌}
 use mathlib.Core.List.{List, [], ◌∷◌, reverse}
 use lib.Dec.{T}
 use lib.ListN.{length, get_or, take}
 use lib.Ieee.Scale.{finite}
 use Rattle.refusals.specs.Refusals.{Verdict}
+use Rattle.past.specs.Acceptance.{last_time, verdict_after}
 use Rattle.past.specs.Stepped.{in_order}
 use Rattle.logical.specs.Run.{run}
-use Rattle.past.specs.Whole.{Told, told_by, next_by, read_all}
+use Rattle.past.specs.Whole.{Told, told_by, next_by, state_after, accepted, read_all}
 use Rattle.past.proofs.Whole.{read_newest, read_at_lem}
-use Rattle.past.proofs.Sequence.{sequence_reads}
+use Rattle.past.proofs.Sequence.{SequenceReads, in_order_lem, accepted_in_order, sequence_reads}
 use Rattle.freeze_protection.specs.declared.types.FreezeRow.{FreezeRow}
 use Rattle.freeze_protection.specs.declared.types.FreezeState.{FreezeState}
 use Rattle.freeze_protection.specs.Verdict.{numbers_finite, freeze_verdict}
@@ -35,7 +36,7 @@ module _ (state : FreezeState) (row : FreezeRow) where
       go (Ok tt) = refl
       go (Err r) = refl
 
-  returned_is : freeze_returned state row ≡ next_by (freeze_verdict state row) (freeze_next state row (freeze_signals state row)) state
+  pub returned_is : freeze_returned state row ≡ next_by (freeze_verdict state row) (freeze_next state row (freeze_signals state row)) state
   unfolding freeze_row step_by
   returned_is = go (freeze_verdict state row)
     where
@@ -65,12 +66,31 @@ time_finite x t = first (finite x.time) _ _ _ _ _ _ _ _ _ t
     first true b c d e f g h i j t = tt
     first false b c d e f g h i j t = t
 
+module _ (k : Bool) where
+  stage_runs : SequenceReads verdict_of freeze_told freeze_returned (freeze_start k) (state_of k) (stage_from k)
+  unfolding freeze_verdict
+  stage_runs =
+      sequence_reads time_of_row numbers_finite time_finite (λ s. s.last) (λ s x. (freeze_signals s x).stage) (λ s x. freeze_next s x (freeze_signals s x))
+      freeze_told freeze_returned told_is returned_is (freeze_start k) (state_of k) (stage_from k) (start_is k) (λ h. refl) (reads k) (moves k)
+
 -- for every list of rows, from either start
 pub freeze_demand_3_from : (keeps_hour : Bool) (rows : List FreezeRow) → run freeze_told freeze_returned (freeze_start keeps_hour) rows ≡ read_all verdict_of (stage_from keeps_hour) [] rows
-unfolding freeze_verdict
-freeze_demand_3_from k =
-    sequence_reads time_of_row numbers_finite time_finite (λ s. s.last) (λ s x. (freeze_signals s x).stage) (λ s x. freeze_next s x (freeze_signals s x))
-    freeze_told freeze_returned told_is returned_is (freeze_start k) (state_of k) (stage_from k) (start_is k) (λ h. refl) (reads k) (moves k)
+freeze_demand_3_from k = (stage_runs k).runs
+
+-- the last accepted time that the state after the rows l keeps, refused ones too, and the verdict on a row, are those that the list tells
+pub last_reads : (keeps_hour : Bool) (l : List FreezeRow) → (state_after freeze_returned (freeze_start keeps_hour) l).last ≡ last_time time_of_row (accepted verdict_of l)
+last_reads k l = ap (λ (s : FreezeState). s.last) ((stage_runs k).states l)
+
+pub verdict_reads : (keeps_hour : Bool) (x : FreezeRow) (l : List FreezeRow) → freeze_verdict (state_after freeze_returned (freeze_start keeps_hour) l) x ≡ verdict_of (accepted verdict_of l) x
+unfolding freeze_verdict verdict_after
+verdict_reads k x l = rw (last_reads k l)
+
+-- the stage among the signals of an accepted row, after the rows l, refused ones too, is the one read off the accepted rows
+pub stage_reads : (keeps_hour : Bool) (x : FreezeRow) (l : List FreezeRow) → verdict_of (accepted verdict_of l) x ≡ Ok tt
+    → (freeze_signals (state_after freeze_returned (freeze_start keeps_hour) l) x).stage ≡ stage_from keeps_hour (x ∷ accepted verdict_of l)
+stage_reads k x l e =
+    let h = accepted verdict_of l in
+    rw ((stage_runs k).states l) (reads k x h (in_order_lem time_of_row numbers_finite time_finite x h (accepted_in_order time_of_row numbers_finite time_finite l) e))
 
 -- from the start of the Rust
 pub freeze_demand_3 : (rows : List FreezeRow) → run freeze_told freeze_returned freeze_fresh rows ≡ read_all verdict_of stage [] rows
@@ -91,8 +111,8 @@ freeze_demand_3_at = freeze_demand_3_from_at false
 pub freeze_timers_from : (keeps_hour : Bool) (rows : List FreezeRow) → run timers_told freeze_returned (freeze_start keeps_hour) rows ≡ read_all verdict_of (timers_from keeps_hour) [] rows
 unfolding freeze_verdict
 freeze_timers_from k =
-    sequence_reads time_of_row numbers_finite time_finite (λ s. s.last) (λ s x. timers_of s (freeze_signals s x)) (λ s x. freeze_next s x (freeze_signals s x))
-    timers_told freeze_returned (λ s x. refl) returned_is (freeze_start k) (state_of k) (timers_from k) (start_is k) (λ h. refl) (timers_read_lem k) (moves k)
+    (sequence_reads time_of_row numbers_finite time_finite (λ s. s.last) (λ s x. timers_of s (freeze_signals s x)) (λ s x. freeze_next s x (freeze_signals s x))
+    timers_told freeze_returned (λ s x. refl) returned_is (freeze_start k) (state_of k) (timers_from k) (start_is k) (λ h. refl) (timers_read_lem k) (moves k)).runs
 
 pub freeze_timers : (rows : List FreezeRow) → run timers_told freeze_returned freeze_fresh rows ≡ read_all verdict_of timers_read [] rows
 unfolding freeze_fresh

@@ -1,7 +1,7 @@
 -- Rows that are not refused by 1, 2 or 3 have times in order. Assumes nothing.
-use Rattle.std.specs.Prelude.{Ok, Err}
+use Rattle.std.specs.Prelude.{Ok}
 use mathlib.Core.Path.{◌≡◌, refl}
-use mathlib.Core.Bool.{Bool, true, false, not, ◌&&◌, cond}
+use mathlib.Core.Bool.{Bool, false, not, ◌&&◌}
 use mathlib.Core.List.{List, [], ◌∷◌}
 use lib.Dec.{T}
 use lib.Ieee.{Float, nan, inf, fin, is_nan}
@@ -10,9 +10,8 @@ use lib.Ieee.Scale.{finite}
 use Rattle.reals.specs.Sign.{is_time, is_sign_negative}
 use Rattle.reals.specs.Seen.{seen_above}
 use Rattle.reals.proofs.FloatOrder.{not-lt→le}
-use Rattle.refusals.specs.declared.Refusal.TheVariants.{NotFinite, NegativeTime, FallingTime}
-use Rattle.refusals.specs.Refusals.{Verdict, judge}
-use Rattle.refusals.proofs.Accepting.{refused_is_not_accepted}
+use Rattle.refusals.specs.Refusals.{judge}
+use Rattle.refusals.proofs.Accepting.{judged}
 use Rattle.past.specs.Acceptance.{last_time}
 use Rattle.past.specs.Stepped.{not_before, in_order}
 use Rattle.past.proofs.Stepped.{time_here}
@@ -29,13 +28,6 @@ time_number nan h = absurd h
 time_number (inf s) h = refl
 time_number (fin s m e) h = refl
 
--- what an accepted row's tests were
-judged : (a b c : Bool) → ◌≡◌ {A = Verdict} (cond (not a) (Err NotFinite) (cond b (Err NegativeTime) (cond c (Err FallingTime) (Ok tt)))) (Ok tt) → T a × (b ≡ false) × (c ≡ false)
-judged true false false e = (tt, refl, refl)
-judged true false true e = absurd (refused_is_not_accepted FallingTime e)
-judged true true c e = absurd (refused_is_not_accepted NegativeTime e)
-judged false b c e = absurd (refused_is_not_accepted NotFinite e)
-
 module _ {R : Type 0} (time : R → Float) (all_finite : R → Bool) (time_finite : (x : R) → T (all_finite x) → T (finite (time x))) where
   -- refusal 3 leaves a time that is not below the one before
   not_before_lem : (t : Float) → is_nan t ≡ false → (h : List R) → T (in_order time h) → seen_above (last_time time h) t ≡ false → T (not_before time t h)
@@ -46,7 +38,7 @@ module _ {R : Type 0} (time : R → Float) (all_finite : R → Bool) (time_finit
   pub judged_in_order : (x : R) (h : List R) → T (in_order time h) → judge (all_finite x) (time x) (last_time time h) ≡ Ok tt → T (in_order time (x ∷ h))
   unfolding judge
   judged_in_order x h o e =
-      let tests = judged (all_finite x) (is_sign_negative (time x)) (seen_above (last_time time h) (time x)) e in
+      let tests = judged (all_finite x) (time x) (seen_above (last_time time h) (time x)) e in
       let f : T (finite (time x)) = time_finite x tests.0 in
       and_i (is_time (time x) && not_before time (time x) h) (in_order time h)
       (and_i (is_time (time x)) (not_before time (time x) h) (and_i (finite (time x)) (not (is_sign_negative (time x))) f (rw tests.1 tt)) (not_before_lem (time x) (finite_number (time x) f) h o tests.2)) o

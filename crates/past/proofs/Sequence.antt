@@ -12,9 +12,9 @@ use Rattle.refusals.specs.Refusals.{judge}
 use Rattle.logical.specs.Run.{run}
 use Rattle.past.specs.Acceptance.{last_time, verdict_after}
 use Rattle.past.specs.Stepped.{in_order}
-use Rattle.past.specs.Whole.{Told, Taken, told_by, next_by, accepted, read_all}
+use Rattle.past.specs.Whole.{Told, Taken, told_by, next_by, state_after, accepted, read_all}
 use Rattle.past.proofs.Judged.{judged_in_order}
-use Rattle.past.proofs.Whole.{good_accepted, run_reads}
+use Rattle.past.proofs.Whole.{good_accepted, run_reads, state_is}
 
 -- a value, and a state, count only where the row is accepted
 pub told_where_accepted : {Y : Type 0} (v : Verdict) (a b : Y) → (v ≡ Ok tt → a ≡ b) → told_by v a ≡ told_by v b
@@ -24,6 +24,12 @@ told_where_accepted (Err r) a b f = refl
 next_where_accepted : {S : Type 0} (v : Verdict) (a b old : S) → (v ≡ Ok tt → a ≡ b) → next_by v a old ≡ next_by v b old
 next_where_accepted (Ok tt) a b old f = f refl
 next_where_accepted (Err r) a b old f = refl
+
+-- what a run from a fresh state tells at every place of a list, and the state that it hands to the row after the rows l, the newest first
+pub record SequenceReads {S R Y : Type 0} (verdict : List R → R → Verdict) (answer : S → R → Told Y) (next : S → R → S) (fresh : S) (state_of : List R → S)
+    (read : List R → Y) : Type 0 where
+  pub runs : (rows : List R) → run answer next fresh rows ≡ read_all verdict read [] rows
+  pub states : (l : List R) → state_after next fresh l ≡ state_of (accepted verdict l)
 
 module _ {R : Type 0} (time : R → Float) (all_finite : R → Bool) (time_finite : (x : R) → T (all_finite x) → T (finite (time x))) where
   -- an accepted row keeps the times in order
@@ -63,5 +69,8 @@ module _ {R : Type 0} (time : R → Float) (all_finite : R → Bool) (time_finit
           rw (next_is (state_of h) x, verdict_is x h)
           (next_where_accepted (verdict_after time all_finite h x) (after (state_of h) x) (state_of (x ∷ h)) (state_of h) (λ e. moves x h (in_order_lem x h o e)))
 
-      pub sequence_reads : (rows : List R) → run answer next fresh rows ≡ read_all (verdict_after time all_finite) read [] rows
-      sequence_reads rows = rw fresh_is (run_reads (verdict_after time all_finite) (in_order time) read answer next state_of tt in_order_lem answers moved rows)
+      pub sequence_reads : SequenceReads (verdict_after time all_finite) answer next fresh state_of read
+      sequence_reads = record {
+        runs = λ rows. rw fresh_is (run_reads (verdict_after time all_finite) (in_order time) read answer next state_of tt in_order_lem answers moved rows);
+        states = λ l. rw fresh_is (state_is (verdict_after time all_finite) (in_order time) read answer next state_of tt in_order_lem answers moved l);
+      }

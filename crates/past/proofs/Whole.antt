@@ -4,9 +4,10 @@ use Rattle.std.specs.Prelude.{Ok, Err}
 use Prim.Native.Nat.{ℕ, zero, suc, ◌<◌}
 use native.Mathlib.Nat.{not-suc-le-zero, le_of_suc-le-suc}
 use mathlib.Core.Path.{◌≡◌, refl, ◌∙◌}
-use mathlib.Core.Bool.{Bool}
+use mathlib.Core.Bool.{Bool, true, false, ◌&&◌}
 use mathlib.Core.List.{List, [], ◌∷◌, reverse_aux}
 use lib.Dec.{T}
+use lib.Ieee.Fits.{and_i, and_l, and_r}
 use lib.ListN.{length, get_or, take}
 use Rattle.refusals.specs.Refusals.{Verdict}
 use Rattle.logical.specs.Run.{run}
@@ -24,6 +25,46 @@ module _ {R : Type 0} (verdict : List R → R → Verdict) (good : List R → Bo
       go : (v : Verdict) → (v ≡ Ok tt → T (good (x ∷ accepted verdict l))) → T (good (accepted verdict l)) → T (good (next_by v (x ∷ accepted verdict l) (accepted verdict l)))
       go (Ok tt) f g = f refl
       go (Err r) f g = g
+
+-- a verdict is that the row is accepted
+abbrev pub accepts : Verdict → Bool
+accepts (Ok v) = true
+accepts (Err r) = false
+
+accepts_ok : (v : Verdict) → T (accepts v) → v ≡ Ok tt
+accepts_ok (Ok v) t = refl
+accepts_ok (Err r) t = absurd t
+
+-- every row of a past is accepted after those before it, as the accepted rows of a list are
+module _ {R : Type 0} (verdict : List R → R → Verdict) where
+  unfoldable pub all_accepted : List R → Bool
+  all_accepted [] = true
+  all_accepted (x ∷ h) = accepts (verdict h x) && all_accepted h
+
+  pub none_accepted : T (all_accepted [])
+  unfolding all_accepted
+  none_accepted = tt
+
+  pub one_more_accepted : (x : R) (h : List R) → T (all_accepted h) → verdict h x ≡ Ok tt → T (all_accepted (x ∷ h))
+  unfolding all_accepted
+  one_more_accepted x h a e = and_i (accepts (verdict h x)) (all_accepted h) (rw e tt) a
+
+  pub accepted_here : (x : R) (h : List R) → T (all_accepted (x ∷ h)) → verdict h x ≡ Ok tt
+  unfolding all_accepted
+  accepted_here x h a = accepts_ok (verdict h x) (and_l (accepts (verdict h x)) (all_accepted h) a)
+
+  pub accepted_before : (x : R) (h : List R) → T (all_accepted (x ∷ h)) → T (all_accepted h)
+  unfolding all_accepted
+  accepted_before x h a = and_r (accepts (verdict h x)) (all_accepted h) a
+
+  -- so nothing is left out of such a past
+  pub accepted_whole : (h : List R) → T (all_accepted h) → accepted verdict h ≡ h
+  unfolding accepted
+  accepted_whole [] a = refl
+  accepted_whole (x ∷ h) a = rw (accepted_whole h (accepted_before x h a), accepted_here x h a) refl
+
+  pub accepted_all : (l : List R) → T (all_accepted (accepted verdict l))
+  accepted_all = good_accepted verdict all_accepted none_accepted one_more_accepted
 
 -- S is the state, R the row and Y what is read; `good` says what holds of accepted rows
 module _ {S R Y : Type 0}

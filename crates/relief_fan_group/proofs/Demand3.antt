@@ -12,7 +12,7 @@ use lib.Ieee.Fits.{and_l}
 use lib.Ieee.Scale.{finite}
 use Rattle.refusals.specs.Refusals.{Verdict}
 use Rattle.past.specs.Stepped.{in_order}
-use Rattle.past.specs.Acceptance.{verdict_after}
+use Rattle.past.specs.Acceptance.{last_time, verdict_after}
 use Rattle.logical.specs.Run.{run}
 use Rattle.past.specs.Whole.{Told, told_by, next_by, state_after, read_all}
 use Rattle.past.specs.Whole as whole
@@ -22,13 +22,14 @@ use Rattle.moving_average.specs.Past.{moving_average_of}
 use Rattle.moving_average.specs.State.{moving_average_is_full}
 use Rattle.relief_fans.specs.Alarms.{alarms_fit}
 use Rattle.relief_fan_group.specs.declared.types.ReliefRow.{ReliefRow}
+use Rattle.relief_fan_group.specs.declared.types.ReliefState.{ReliefState}
 use Rattle.relief_fan_group.specs.Verdict.{numbers_finite, relief_verdict}
 use Rattle.relief_fan_group.specs.Signals.{pressure_control, relief_signals}
 use Rattle.relief_fan_group.specs.Commands.{relief_commands}
 use Rattle.relief_fan_group.specs.Step.{relief_fresh, relief_row, signals_at, step_by}
 use Rattle.relief_fan_group.specs.Reading.{Past, time_of_row, pressure_of_row, ReliefReading, relief_reading, verdict_of}
 use Rattle.relief_fan_group.specs.Blocks.{blocks_of, signals_of}
-use Rattle.relief_fan_group.specs.Told.{pulses_told, relief_told, relief_returned}
+use Rattle.relief_fan_group.specs.Told.{pulses_in, pulses_told, relief_told, relief_returned}
 use Rattle.relief_fan_group.specs.Left.{timers_of, timers_told, timers_read}
 use Rattle.relief_fan_group.proofs.Windowed as windowed
 use Rattle.relief_fan_group.proofs.Blocks.{state_of, signals_are, fresh_is, up_pulse_lem, down_pulse_lem, last_reads, timers_read_lem}
@@ -75,8 +76,7 @@ accepted_good l = good_accepted verdict_of good good_none good_more l
 
 -- ---- the answer and the returned state of a row after the past h
 -- the signals of an accepted row are the readings
-pub reads_here : (x : ReliefRow) (h : Past) → T (in_order time_of_row (x ∷ h))
-    → ◌≡◌ {A = ReliefReading} (record { mean = (signals_of x h).control.average; up = (signals_of x h).up.up_tim.passed; down = (signals_of x h).down.dow_tim.passed }) (relief_reading (x ∷ h))
+pub reads_here : (x : ReliefRow) (h : Past) → T (in_order time_of_row (x ∷ h)) → pulses_in (signals_of x h) ≡ relief_reading (x ∷ h)
 unfolding relief_reading
 reads_here x h o = rw (up_pulse_lem x h o, down_pulse_lem x h o) (unfold relief_signals pressure_control in refl)
 
@@ -108,6 +108,23 @@ relief_demand_3_at other rows i l = rw (relief_demand_3 rows) (read_at_lem verdi
 -- ---- the state that a run hands to the row after the rows l is that of the accepted ones
 pub state_after_lem : (l : List ReliefRow) → state_after relief_returned relief_fresh l ≡ state_of (whole.accepted verdict_of l)
 state_after_lem l = rw fresh_is (state_is verdict_of good relief_reading relief_told relief_returned state_of good_none good_more answers moves l)
+
+-- so the last accepted time that it keeps, its window, and the verdict on a row are those that the list tells
+pub last_after : (l : List ReliefRow) → (state_after relief_returned relief_fresh l).blocks.last ≡ last_time time_of_row (whole.accepted verdict_of l)
+last_after l = rw (state_after_lem l) (last_reads (whole.accepted verdict_of l))
+
+pub window_after : (l : List ReliefRow) → (state_after relief_returned relief_fresh l).window ≡ moving_average_of time_of_row pressure_of_row (whole.accepted verdict_of l)
+window_after l = ap (λ (s : ReliefState). s.window) (state_after_lem l)
+
+pub verdict_reads : (x : ReliefRow) (l : List ReliefRow) → relief_verdict (state_after relief_returned relief_fresh l).blocks x (moving_average_is_full (state_after relief_returned relief_fresh l).window x.time) ≡ verdict_of (whole.accepted verdict_of l) x
+verdict_reads x l = rw (state_after_lem l) (verdict_is x (whole.accepted verdict_of l) (accepted_good l))
+
+-- and the mean and both pulses among the signals of an accepted row
+pub signals_read : (x : ReliefRow) (l : List ReliefRow) → verdict_of (whole.accepted verdict_of l) x ≡ Ok tt
+    → pulses_in (signals_at (state_after relief_returned relief_fresh l) x) ≡ relief_reading (x ∷ whole.accepted verdict_of l)
+signals_read x l e =
+    let h = whole.accepted verdict_of l in
+    rw (state_after_lem l, signals_are x h) (reads_here x h (good_order (x ∷ h) (good_more x h (accepted_good l) e)))
 
 -- ---- an accepted row's commands are worked from the signals that its past gives
 pub commands_are : (x : ReliefRow) (l : List ReliefRow) → verdict_of (whole.accepted verdict_of l) x ≡ Ok tt

@@ -8,6 +8,10 @@ use Rattle.relief_fan_group.specs.Step.{ReliefAnswer}
 use Rattle.relief_fan_group.specs.Reading.{ReliefReading}
 use Rattle.relief_fan_group.specs.Step.{signals_at, relief_row}
 
+-- mean and pulses as they stand in a row's signals
+abbrev pub pulses_in : ReliefSignals → ReliefReading
+pulses_in signals = record { mean = signals.control.average; up = signals.up.up_tim.passed; down = signals.down.dow_tim.passed }
+
 -- of an answer, the refusal, or the mean among its commands beside the pulses among the signals
 abbrev pub pulses_told : ReliefAnswer → ReliefSignals → Told ReliefReading
 pulses_told (Ok c) signals = Taken (record { mean = c.averaged_pressure; up = signals.up.up_tim.passed; down = signals.down.dow_tim.passed })

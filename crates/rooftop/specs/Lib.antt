@@ -3,3 +3,7 @@ pub mod Wiring
 pub mod Verdict
 pub mod Step
 pub mod Lent
+pub mod Reading
+pub mod Told
+pub mod Stages
+pub mod StageSeen

@@ -1,0 +1,81 @@
+-- When the economizer sees a freeze stage. Assumes nothing.
+use Rattle.std.specs.Prelude.{Ok, Err, Some}
+use Prim.Native.Nat.{ℕ, ◌≤◌}
+use native.Mathlib.Omega.{arith}
+use mathlib.Core.Path.{◌≡◌, refl, sym, ◌∙◌}
+use mathlib.Core.Bool.{Bool, true, false, ◌&&◌}
+use mathlib.Core.List.{List, [], ◌∷◌, map}
+use lib.Dec.{eqb, eqb→eq}
+use lib.IntN.{pos}
+use lib.Ieee.{Float, add, sub, lt, le, eq, round, of_bits}
+use Rattle.reals.specs.Sign.{is_sign_negative}
+use Rattle.reals.specs.Seen.{seen_above}
+use Rattle.reals.proofs.Truth.{is_false}
+use Rattle.refusals.specs.Refusals.{Verdict, judge, verdict_or_refused}
+use Rattle.logical.specs.Run.{run}
+use Rattle.past.specs.Acceptance.{verdict_after}
+use Rattle.past.specs.Past.{some, every, since_with, since, rises, latched}
+use Rattle.past.specs.Runs.{passed, gaps}
+use Rattle.past.specs.Turns.{values, turns, changes, hold_here, hold}
+use Rattle.past.specs.Whole.{Taken, told_by, state_after, accepted, read_all}
+use Rattle.economizer_controller.specs.Integers.{integers_equal}
+use Rattle.economizer_controller.specs.Reading as economizer
+use Rattle.freeze_protection.specs.Signals.{stage_number}
+use Rattle.freeze_protection.specs.Reading.{cold, warm, holding, recovery, stage3_call, end_of_hour, stage1_call_by, stage_by, stage_from}
+use Rattle.moving_average.specs.Past.{from, different_before, different, window_is_full}
+use Rattle.relief_fans.specs.Alarms.{fits_byte, alarms_fit}
+use Rattle.relief_fans.specs.Flags.{all_of}
+use Rattle.relief_fan_group.specs.Verdict.{after_judged}
+use Rattle.rooftop.specs.declared.types.RooftopRow.{RooftopRow}
+use Rattle.rooftop.specs.declared.types.RooftopState.{RooftopState}
+use Rattle.rooftop.specs.Wiring.{economizer_row_of, freeze_row_of}
+use Rattle.rooftop.specs.Verdict.{numbers_finite}
+use Rattle.rooftop.specs.Step.{rooftop_start, economizer_at}
+use Rattle.rooftop.specs.Reading.{Past, verdict_of, RooftopReading, economizer_in, wired, rooftop_reading}
+use Rattle.rooftop.specs.Told.{rooftop_told, rooftop_returned}
+use Rattle.rooftop.specs.StageSeen.{with_supply_air, three_cold_rows, stage_and_enable}
+use Rattle.rooftop.proofs.Demand3.{rooftop_demand_3, told_reads}
+
+-- nothing of a stage is seen on the row itself: from any state, the economizer commands and keeps what it would at any other supply air temperature, and at any reset
+pub unseen_on_the_row : (state : RooftopState) (row : RooftopRow) (temperature : Float) (reset : Bool)
+    → economizer_at state (with_supply_air row temperature reset) ≡ economizer_at state row
+unfolding economizer_row_of
+unseen_on_the_row state row temperature reset = refl
+
+module _ (k : Bool) where
+  -- the stage in the economizer's row is the one that is read off the rows before
+  pub stage_handed : (x : RooftopRow) (h : Past)
+      → (wired k (x ∷ h)).economizer ≡ economizer_row_of x (pos (rooftop_reading k h).stage) ∷ (wired k h).economizer
+  unfolding wired rooftop_reading
+  stage_handed x h = refl
+
+  -- on a row after one with a stage the economizer is not enabled
+  disabled : (x : RooftopRow) (h : Past) → 1 ≤ (rooftop_reading k h).stage → (rooftop_reading k (x ∷ h)).economizer.enabled ≡ false
+  unfolding rooftop_reading economizer.economizer_reading economizer.is_enabled wired economizer_row_of integers_equal
+  disabled x h l = never (economizer.held (economizer_in k (wired k h) x ∷ (wired k h).economizer) && x.supply_fan_status) (stage_from k (wired k h).freeze) l
+    where
+      never : (b : Bool) (stage : ℕ) → 1 ≤ stage → (b && eqb stage 0) ≡ false
+      never true stage l = is_false (eqb stage 0) (λ t. let zero : stage ≡ 0 = eqb→eq stage 0 t in omega (arith, l, zero))
+      never false stage l = refl
+
+  -- so it is of the answers: over all lists of rows, refused ones included, where the last accepted row of them has a stage
+  pub disabled_after_stage : (x : RooftopRow) (l : List RooftopRow) → 1 ≤ (rooftop_reading k (accepted verdict_of l)).stage
+      → (y : RooftopReading) → rooftop_told (state_after rooftop_returned (rooftop_start k) l) x ≡ Taken y → y.economizer.enabled ≡ false
+  disabled_after_stage x l s y e = go (verdict_of h x) (sym (told_reads k x l) ∙ e)
+    where
+      h : Past
+      h = accepted verdict_of l
+
+      go : (v : Verdict) → told_by v (rooftop_reading k (x ∷ h)) ≡ Taken y → y.economizer.enabled ≡ false
+      go (Ok v) e = let same : rooftop_reading k (x ∷ h) ≡ y = cc in rw (← same) (disabled x h s)
+      go (Err r) e = absurd (let z : ◌≡◌ {A = ℕ} 0 1 = cc in omega arith)
+
+read : map stage_and_enable (read_all verdict_of (rooftop_reading false) [] three_cold_rows) ≡ Some (0, true) ∷ Some (1, true) ∷ Some (1, false) ∷ []
+unfolding read_all accepted verdict_of verdict_after after_judged verdict_or_refused alarms_fit all_of fits_byte judge numbers_finite seen_above is_sign_negative window_is_full from different_before different eq
+    rooftop_reading wired economizer_row_of freeze_row_of economizer.economizer_reading economizer.is_enabled economizer.held economizer.warm_outside integers_equal
+    stage_by stage_number stage1_call_by recovery holding end_of_hour stage3_call cold warm hold values hold_here changes gaps turns passed latched rises since since_with some every lt le add sub round of_bits
+read = refl
+
+-- the shortest list that shows it: with two rows no row comes after one with a stage
+pub three_rows : map stage_and_enable (run rooftop_told rooftop_returned (rooftop_start false) three_cold_rows) ≡ Some (0, true) ∷ Some (1, true) ∷ Some (1, false) ∷ []
+three_rows = rw (rooftop_demand_3 false three_cold_rows) read

@@ -1,0 +1,17 @@
+-- What stages 3 and 2 of freeze protection command in the joined sequence (change request 6). proofs/Stages.antt shows it.
+use Rattle.std.specs.Prelude.{◌≡◌}
+use Rattle.reals.specs.Constants.{plus_zero, one}
+use Rattle.reals.specs.Four.{each4}
+use Rattle.relief_fan_group.specs.Alarms.{speeds_of}
+use Rattle.rooftop.specs.declared.types.RooftopCommands.{RooftopCommands}
+
+-- stage 3: freeze protection's outdoor and return commands are 0, and the speeds of all four relief fans
+pub record RooftopStageThree (c : RooftopCommands) : Type 0 where
+  pub outdoor_damper : c.freeze.outdoor_damper_command ≡ plus_zero
+  pub return_damper : c.freeze.return_damper_command ≡ plus_zero
+  pub fan_speeds : speeds_of c.relief ≡ each4 (λ i. plus_zero)
+
+-- stage 2: its outdoor command is 0, and its return command 1
+pub record RooftopStageTwo (c : RooftopCommands) : Type 0 where
+  pub outdoor_damper : c.freeze.outdoor_damper_command ≡ plus_zero
+  pub return_damper : c.freeze.return_damper_command ≡ one
