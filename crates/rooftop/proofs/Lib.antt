@@ -4,3 +4,4 @@ pub mod SideBySide
 pub mod Demand3
 pub mod Stages
 pub mod StageSeen
+pub mod OwnFields

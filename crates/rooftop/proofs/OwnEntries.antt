@@ -60,14 +60,14 @@ twelve true true true true true true true true true true true false t = absurd t
 twelve true true true true true true true true true true true true t = (refl, refl, refl, refl, refl, refl, refl, refl, refl, refl, refl, refl)
 
 -- each number of a row whose numbers are finite
-abbrev EachFinite : RooftopRow → Type 0
+abbrev pub EachFinite : RooftopRow → Type 0
 EachFinite row =
     (finite row.time ≡ true) × (finite row.outdoor_airflow_normalized ≡ true) × (finite row.minimum_outdoor_airflow_setpoint_normalized ≡ true)
     × (finite row.supply_temperature_signal ≡ true) × (finite row.outdoor_air_temperature ≡ true) × (finite row.heating_coil ≡ true)
     × (finite row.minimum_outdoor_damper ≡ true) × (finite row.supply_air_temperature ≡ true) × (finite row.supply_fan_speed ≡ true)
     × (finite row.cooling_coil ≡ true) × (finite row.mixed_air_temperature ≡ true) × (finite row.pressure ≡ true)
 
-each_finite : (row : RooftopRow) → T (numbers_finite row) → EachFinite row
+pub each_finite : (row : RooftopRow) → T (numbers_finite row) → EachFinite row
 unfolding numbers_finite
 each_finite row t =
     twelve
@@ -103,7 +103,7 @@ module _ (state : RooftopState) (row : RooftopRow) (accepted : verdict_at state 
   unfolding relief.after_judged
   judged_ok = (neither_fits judged_here (not (alarms_fit row.alarm)) AlarmOutOfRange (neither_fits (verdict_or_refused judged_here (not (alarms_fit row.alarm)) AlarmOutOfRange) full WindowFull after).0).0
 
-  tests : T (numbers_finite row) × (is_sign_negative row.time ≡ false) × (falling ≡ false)
+  pub tests : T (numbers_finite row) × (is_sign_negative row.time ≡ false) × (falling ≡ false)
   tests = judged (numbers_finite row) row.time falling judged_ok
 
   not_below : (seen_above state.economizer.last row.time ≡ false) × (seen_above state.freeze.last row.time ≡ false) × (seen_above state.relief.blocks.last row.time ≡ false)

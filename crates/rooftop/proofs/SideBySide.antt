@@ -12,13 +12,16 @@ use Rattle.refusals.specs.Step.{stepped}
 use Rattle.past.specs.Acceptance.{last_time}
 use Rattle.past.specs.Whole.{state_after, accepted, next_by}
 use Rattle.past.proofs.Whole.{all_accepted, none_accepted, one_more_accepted, accepted_here, accepted_before, accepted_whole, accepted_all}
+use Rattle.economizer_controller.specs.Step.{economizer_row}
 use Rattle.economizer_controller.specs.Reading as economizer
 use Rattle.economizer_controller.proofs.Demand3 as economizer_reads
 use Rattle.freeze_protection.specs.Commands.{freeze_commands}
 use Rattle.freeze_protection.specs.Reading.{stage_from}
+use Rattle.freeze_protection.specs.Step.{freeze_row}
 use Rattle.freeze_protection.specs.Reading as freeze
 use Rattle.freeze_protection.proofs.Demand3 as freeze_reads
 use Rattle.moving_average.specs.Past.{moving_average_of}
+use Rattle.relief_fan_group.specs.Step.{relief_row}
 use Rattle.relief_fan_group.specs.Reading as relief
 use Rattle.relief_fan_group.proofs.Demand3 as relief_reads
 use Rattle.relief_fan_group.proofs.Windowed as windowed
@@ -27,7 +30,7 @@ use Rattle.rooftop.specs.declared.types.RooftopState.{RooftopState}
 use Rattle.rooftop.specs.Wiring.{economizer_row_of, freeze_row_of, relief_row_of}
 use Rattle.rooftop.specs.Verdict.{numbers_finite, falls}
 use Rattle.rooftop.specs.Step.{economizer_accepted, freeze_accepted, freeze_at, rooftop_commands, rooftop_next, verdict_at, rooftop_row}
-use Rattle.rooftop.specs.Reading.{Past, time_of_row, pressure_of_row, alarm_of_row, verdict_of, economizer_in, freeze_in, freeze_out, relief_in, wired, state_alone}
+use Rattle.rooftop.specs.Reading.{Past, time_of_row, pressure_of_row, alarm_of_row, verdict_of, economizer_alone, freeze_alone, relief_alone, economizer_in, economizer_out, freeze_in, freeze_out, relief_in, relief_out, wired, state_alone}
 use Rattle.rooftop.specs.Told.{rooftop_returned}
 use Rattle.rooftop.proofs.OwnEntries.{time_finite, verdict_is_judged, economizer_accepts, freeze_accepts, relief_accepts, own_economizer, own_freeze, own_relief}
 
@@ -165,6 +168,18 @@ module _ (k : Bool) where
   module _ (x : RooftopRow) (h : Past) (a : T (all_accepted verdict_of h)) where
     pub verdict_told : verdict_at (state_alone k (wired k h)) x ≡ verdict_of h x
     verdict_told = verdict_reads h (alone h a) x (good_of h a)
+
+    -- where it is accepted, each sequence alone answers the row that it is handed with the commands that the joined answer has of it
+    pub answers_alone : verdict_of h x ≡ Ok tt →
+        let w = wired k h in
+        ((economizer_row (economizer_alone w.economizer) (economizer_in k w x)).answer ≡ Ok (economizer_out k w x))
+        × ((freeze_row (freeze_alone k w.freeze) (freeze_in k w x)).answer ≡ Ok (freeze_out k w x))
+        × ((relief_row (relief_alone w.relief) (relief_in k w x)).answer ≡ Ok (relief_out k w x))
+    unfolding economizer_accepted freeze_accepted
+    answers_alone e =
+        let s = state_alone k (wired k h) in
+        let o = verdict_told ∙ e in
+        (λ i. (own_economizer s x o i).answer, λ i. (own_freeze s x o i).answer, λ i. (own_relief s x o i).answer)
 
     pub returned_reads : rooftop_returned (state_alone k (wired k h)) x ≡ next_by (verdict_of h x) (state_alone k (wired k (x ∷ h))) (state_alone k (wired k h))
     unfolding rooftop_row

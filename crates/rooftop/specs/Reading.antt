@@ -1,6 +1,7 @@
 -- The joined sequence read off its accepted rows, with no joined state: three runs side by side, each of one sequence alone on the rows that are wired to it, so
 -- that the readings of each stand as they are (change request 6). A past holds the accepted rows up to here, the newest first.
-use Rattle.std.specs.Prelude.{ℕ, Bool, List, [], ◌∷◌, Float, ℤ, pos}
+use Rattle.std.specs.Prelude.{ℕ, Bool, false, List, [], ◌∷◌, Float, ℤ, pos}
+use Rattle.reals.specs.Constants.{plus_zero}
 use Rattle.refusals.specs.Refusals.{Verdict}
 use Rattle.past.specs.Whole.{state_after}
 use Rattle.economizer_controller.specs.declared.types.EconomizerRow.{EconomizerRow}
@@ -46,6 +47,17 @@ alarm_of_row row = row.alarm
 -- economizer hands on is always finite (proofs/OwnEntries.antt)
 unfoldable pub verdict_of : Past → RooftopRow → Verdict
 verdict_of = verdict_windowed time_of_row alarm_of_row numbers_finite
+
+-- freeze protection's row of a joined row's own fields, with 0 for what the economizer hands on: a stage asks for none of that (proofs/OwnFields.antt)
+abbrev pub freeze_fields : RooftopRow → FreezeRow
+freeze_fields x =
+    freeze_row_of x
+    (record {
+      outdoor_damper_min_limit = plus_zero;
+      minimum_outdoor_air_loop_enabled = false;
+      outdoor_damper_command = plus_zero;
+      return_damper_command = plus_zero;
+    })
 
 -- ---- each sequence alone: its state after a run over the rows l from its start, and what it then commands at the row x
 abbrev pub economizer_alone : List EconomizerRow → EconomizerState
