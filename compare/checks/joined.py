@@ -16,9 +16,12 @@ WIRES = {
     'fan': "the relief fan group is handed the row's own fan",
     'second-flag': 'the second supply flag is off',
     'start': 'freeze protection starts in the other manner',
+    'order': 'a full window is told before an alarm that does not fit',
+    'refused-state': 'a refused row changes the state',
+    'refused-window': 'a refused row changes the window',
 }
 
-MOST = 3    # rows that the lists are cut down to
+MOST = {'order': 700}    # rows that the lists are cut down to, 3 for the others: a full window has 512
 
 SCRIPT = os.path.join(comparing.COMPARE, 'rooftop')
 
@@ -32,8 +35,8 @@ def check_joined():
         return
     for wire, what in WIRES.items():
         ended = played('--wrong-wire', wire)
-        found = ended.returncode == 1 and 'first difference' in ended.stdout and ended.stdout.count('Row {') <= MOST
-        check(f'joined rows show that {what}', '' if found else ended.stdout + ended.stderr)
+        found = ended.returncode == 1 and 'first difference' in ended.stdout and 1 <= ended.stdout.count('Row {') <= MOST.get(wire, 3)
+        check(f'joined rows show where {what}', '' if found else ended.stdout + ended.stderr)
     ended = played('--wrong-wire', 'no-stage')
     check('an economizer that is enabled on the row after one with a stage is found',
           '' if 'enabled on the row after one with a stage' in ended.stdout else ended.stdout + ended.stderr)

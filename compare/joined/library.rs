@@ -129,4 +129,14 @@ impl Played for Library {
     fn changed(&self) -> bool {
         !self.now.is_same(&self.before)
     }
+
+    fn damage(&mut self, window: bool) {
+        if window {
+            let [.., last] = &mut self.now.integrals;
+            *last = f64::from_bits(last.to_bits() ^ 1);
+        } else {
+            let [.., last] = &mut self.now.state.words;
+            *last ^= 1;
+        }
+    }
 }

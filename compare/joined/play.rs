@@ -4,6 +4,7 @@ use std::num::NonZero;
 use std::sync::Mutex;
 use std::sync::atomic::{AtomicU64, Ordering};
 use std::thread;
+use std::time::{Duration, Instant};
 
 use super::library::Library;
 use super::plans;
@@ -12,7 +13,10 @@ use super::row::{Answer, Commands, NUMBERS, Row, difference, other_signs};
 use super::tally::Tally;
 
 /// The seeds of a full run, in which each event must occur in either start.
-const SEEDS: u64 = 300;
+const SEEDS: u64 = 400;
+
+/// How long a list is cut down.
+const CUTTING: Duration = Duration::from_secs(5);
 
 const STARTS: [(&str, bool); 2] = [("published", false), ("keep-hour", true)];
 
@@ -22,6 +26,8 @@ pub trait Played {
     fn row(&mut self, row: &Row) -> Answer;
     /// Whether the last row left anything of what is kept from row to row other than it was.
     fn changed(&self) -> bool;
+    /// Changes a bit of the state, or of the window's arrays.
+    fn damage(&mut self, window: bool);
 }
 
 /// What a run over lists tells and whether all passed, or a message about the words.
@@ -112,6 +118,9 @@ fn play<P: Played>(rows: &[Row], keeps_hour: bool, wrong: Option<Wrong>, mut tal
         let before = tally.as_ref().map(|_| reference.before.clone());
         let expected = reference.row(row);
         let given = program.row(row);
+        if given.is_err() && matches!(wrong, Some(Wrong::RefusedState | Wrong::RefusedWindow)) {
+            program.damage(wrong == Some(Wrong::RefusedWindow));
+        }
         let wrong = difference(&expected, &given)
             .or_else(|| (expected.is_err() && program.changed()).then(|| "a refused row changed the state".into()))
             .or_else(|| forbidden(&reference, row, &expected, stage));
@@ -149,8 +158,10 @@ fn forbidden(reference: &Reference, row: &Row, answer: &Answer, before: u64) -> 
     Some(wrong.into())
 }
 
-/// A list that is still answered otherwise, cut down to rows that matter.
+/// A list that is still answered otherwise, cut down to rows that matter, as far as that goes in some seconds.
 fn cut_down(rows: &[Row], differs: impl Fn(&[Row]) -> Option<usize>) -> Vec<Row> {
+    let end = Instant::now() + CUTTING;
+    let differs = |rows: &[Row]| if Instant::now() < end { differs(rows) } else { None };
     let mut rows = rows.to_vec();
     if let Some(last) = differs(&rows) {
         rows.truncate(last + 1);

@@ -8,7 +8,7 @@ use crate::sequences::economizer_controller::econ;
 use crate::sequences::freeze_protection::freeze;
 use crate::sequences::relief_fan_group::relief;
 
-/// A wire that is wrong, to see that the comparison finds it.
+/// A wire that is wrong, or what else is, to see that the comparison finds it.
 #[derive(Clone, Copy, Debug, PartialEq)]
 pub enum Wrong {
     /// The economizer is handed the stage of this row.
@@ -27,9 +27,15 @@ pub enum Wrong {
     SecondFlag,
     /// Freeze protection starts in the other manner.
     Start,
+    /// A full window is told before an alarm that does not fit.
+    Order,
+    /// The program's refused rows change a word of the state.
+    RefusedState,
+    /// They change the last number of the window.
+    RefusedWindow,
 }
 
-pub const WRONG: [(&str, Wrong); 8] = [
+pub const WRONG: [(&str, Wrong); 11] = [
     ("stage", Wrong::Stage),
     ("late-stage", Wrong::LateStage),
     ("no-stage", Wrong::NoStage),
@@ -38,6 +44,9 @@ pub const WRONG: [(&str, Wrong); 8] = [
     ("fan", Wrong::Fan),
     ("second-flag", Wrong::SecondFlag),
     ("start", Wrong::Start),
+    ("order", Wrong::Order),
+    ("refused-state", Wrong::RefusedState),
+    ("refused-window", Wrong::RefusedWindow),
 ];
 
 /// What the traces show of the last accepted row.
@@ -85,7 +94,10 @@ impl Reference {
 
     pub fn row(&mut self, row: &Row) -> Answer {
         let mut before = self.before.clone();
-        let status = before.relief_status(row.time, row.is_finite(), &row.alarm);
+        let mut status = before.relief_status(row.time, row.is_finite(), &row.alarm);
+        if status == 11 && self.wrong == Some(Wrong::Order) && before.clone().relief_status(row.time, true, &[0; 4]) == 4 {
+            status = 4;
+        }
         if status != 0 {
             return Err(status.into());
         }
