@@ -7,8 +7,10 @@
 //!     reference blocks                the lines that `replay_blocks` must print
 //!     events count FILE..             how often each kind of event occurs in these row files
 //!     calls measure < ROWS            nanoseconds a row, of the published trace function and of the firmware library's calls
+//!     calls measure rooftop ROWS GAP  the same of joined rows so many seconds apart, and of the three trace functions
+//!     rooftop rooftop WORD..          joined rows: the words are those of compare/rooftop
 //!
-//! `events` is this program built with `--cfg events`, and `calls` with `--cfg calls` and the library.
+//! `events` is this program built with `--cfg events`, `calls` with `--cfg calls` and the library, `rooftop` with both.
 
 #[path = "reference/acceptance.rs"]
 mod acceptance;

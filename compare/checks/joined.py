@@ -35,7 +35,8 @@ def check_joined():
         return
     for wire, what in WIRES.items():
         ended = played('--wrong-wire', wire)
-        found = ended.returncode == 1 and 'first difference' in ended.stdout and 1 <= ended.stdout.count('Row {') <= MOST.get(wire, 3)
+        told = ended.returncode == 1 and 'first difference' in ended.stdout
+        found = told and 1 <= ended.stdout.count('Row {') <= MOST.get(wire, 3)
         check(f'joined rows show where {what}', '' if found else ended.stdout + ended.stderr)
     ended = played('--wrong-wire', 'no-stage')
     check('an economizer that is enabled on the row after one with a stage is found',

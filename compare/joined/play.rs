@@ -110,7 +110,12 @@ fn one(seed: u64, wrong: Option<Wrong>, sum: &Mutex<Sum>) {
 }
 
 /// Plays a list: the first row that is not as it has to be, and what is wrong with it.
-fn play<P: Played>(rows: &[Row], keeps_hour: bool, wrong: Option<Wrong>, mut tally: Option<&mut Tally>) -> Option<(usize, String)> {
+fn play<P: Played>(
+    rows: &[Row],
+    keeps_hour: bool,
+    wrong: Option<Wrong>,
+    mut tally: Option<&mut Tally>,
+) -> Option<(usize, String)> {
     let mut reference = Reference::start(keeps_hour, wrong);
     let mut program = P::start(keeps_hour);
     let mut stage = 0;

@@ -192,7 +192,8 @@ fn commanded(count: &mut impl FnMut(Arguments, bool), last: &Last, now: &Last) {
     count(format_args!("both dampers at 0 below stage 3, the fan on"), both && stage < 3 && freeze.supply_fan_status == 1);
     let ran = last.commands.relief.fan_speed.iter().any(|&speed| speed > 0.0);
     let runs = now.commands.relief.fan_speed.iter().any(|&speed| speed > 0.0);
-    let (new, over) = (stage == 3 && last.commands.freeze.freeze_protection_stage < 3, stage < 3 && last.commands.freeze.freeze_protection_stage == 3);
+    let before = last.commands.freeze.freeze_protection_stage;
+    let (new, over) = (stage == 3 && before < 3, stage < 3 && before == 3);
     let on = now.row.supply_fan_status;
     count(format_args!("stage 3 stops the relief fans while the row's fan is on"), new && ran && !runs && on);
     count(format_args!("relief fans run on the row that ends stage 3"), over && runs);
