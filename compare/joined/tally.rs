@@ -104,10 +104,11 @@ impl Tally {
 /// Refusals, each by what is wrong with the row.
 fn refused(mut count: impl FnMut(Arguments, bool), before: &Before, last: Option<&Last>, row: &Row, status: u64) {
     let (time, mut row) = (row.time, *row);
+    let alone = row.numbers().iter().filter(|number| !number.is_finite()).count() == 1;
     for (name, number) in NUMBERS {
         let value = *number(&mut row);
-        count(format_args!("1: {name} NaN"), value.is_nan());
-        count(format_args!("1: {name} infinite"), value.is_infinite());
+        count(format_args!("1: {name} alone NaN"), alone && value.is_nan());
+        count(format_args!("1: {name} alone infinite"), alone && value.is_infinite());
     }
     let finite = row.is_finite();
     let negative = time.is_sign_negative() && !time.is_nan();
@@ -117,6 +118,7 @@ fn refused(mut count: impl FnMut(Arguments, bool), before: &Before, last: Option
     let full = before.clone().relief_status(time, true, &[0; 4]) == 4;
     count(format_args!("2: time -0.0"), status == 2 && time == 0.0);
     count(format_args!("2: another negative time"), status == 2 && time != 0.0);
+    count(format_args!("2 where no other fits"), status == 2 && !falling && !beyond);
     count(format_args!("3"), status == 3);
     count(format_args!("11: an alarm below -128"), status == 11 && row.alarm.iter().any(|&alarm| alarm < -128));
     count(format_args!("11: an alarm above 127"), status == 11 && row.alarm.iter().any(|&alarm| alarm > 127));
