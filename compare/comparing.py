@@ -14,6 +14,7 @@ TARGET = os.path.join(ROOT, 'target', 'compare')
 REFERENCE = os.path.join(TARGET, 'reference')
 GENERATE = os.path.join(TARGET, 'generate')
 CALLS = os.path.join(TARGET, 'calls')
+ROOFTOP = os.path.join(TARGET, 'rooftop')
 EVENTS = os.path.join(TARGET, 'events')
 
 sys.path.insert(0, os.path.join(ROOT, 'tools'))

@@ -7,23 +7,40 @@
 //!     reference blocks                the lines that `replay_blocks` must print
 //!     events count FILE..             how often each kind of event occurs in these row files
 //!     calls measure < ROWS            nanoseconds a row, of the published trace function and of the firmware library's calls
+//!     calls measure rooftop ROWS GAP  the same of joined rows so many seconds apart, and of the three trace functions
+//!     rooftop rooftop WORD..          joined rows: the words are those of compare/rooftop
 //!
-//! `events` is this program built with `--cfg events`, and `calls` with `--cfg calls` and the library.
+//! `events` is this program built with `--cfg events`, `calls` with `--cfg calls` and the library, `rooftop` with both.
 
 #[path = "reference/acceptance.rs"]
 mod acceptance;
 #[cfg(calls)]
 mod calls;
+#[cfg(calls)]
+#[allow(dead_code)]
+#[path = "generate/clock.rs"]
+mod clock;
 #[path = "reference/columns.rs"]
 mod columns;
 #[cfg(events)]
 mod events;
 #[path = "reference/input.rs"]
 mod input;
+#[cfg(any(calls, test))]
+#[cfg_attr(not(events), allow(dead_code))]
+mod joined;
 #[path = "reference/lines.rs"]
 mod lines;
 #[path = "reference/marks.rs"]
 mod marks;
+#[cfg(calls)]
+#[allow(dead_code)]
+#[path = "generate/mean.rs"]
+mod mean;
+#[cfg(calls)]
+#[allow(dead_code)]
+#[path = "generate/random.rs"]
+mod random;
 /// The published sequences, as compare/extract takes them from docs/src.
 #[allow(dead_code)]
 #[path = "../target/compare/sequences"]
@@ -95,6 +112,13 @@ fn run(words: &[&str]) -> Result<(), String> {
         ["blocks"] => print([freeze::blocks(), relief::blocks(), econ::blocks(), sequences::blocks()].concat().as_bytes()),
         #[cfg(calls)]
         ["measure"] => print(measure(io::stdin().lock()).map_err(|error| error.to_string())?.as_bytes()),
+        #[cfg(calls)]
+        ["measure", "rooftop", words @ ..] => print(joined::measure::run(words)?.as_bytes()),
+        #[cfg(all(calls, events))]
+        ["rooftop", words @ ..] => joined::play::run(words).and_then(|(told, passed)| {
+            print(told.as_bytes())?;
+            if passed { Ok(()) } else { Err("joined rows are not answered as they have to be".into()) }
+        }),
         #[cfg(events)]
         ["count", files @ ..] if !files.is_empty() => print(&events::count(files)?),
         _ => Err(format!(

@@ -31,7 +31,7 @@ extern "C" {
 
 /* Major, minor: the minor grows with what is added, the major where a state or a struct is laid out anew. */
 #define WOLDGRATER_VERSION_MAJOR 5
-#define WOLDGRATER_VERSION_MINOR 0
+#define WOLDGRATER_VERSION_MINOR 1
 
 /* Statuses. 0: accepted. The others are refusals: a refused row hands the old state back (the same words, where a call gave them; of
  * any other words those of the state that they are read as), and its commands, signals and seconds left are all zero and mean nothing. */
@@ -353,6 +353,50 @@ struct woldgrater_alarm_given {
     int64_t alarm;
 };
 
+/* The joined row. */
+
+struct woldgrater_rooftop_state {
+    uint64_t words[265];
+};
+
+/* A sampled row: its time in seconds and the supply fan status, which more than one sequence takes; then what the
+ * economizer, freeze protection and the relief fan group take of their own. What one sequence hands to another is
+ * not in it. */
+struct woldgrater_rooftop_row {
+    double time;
+    uint64_t supply_fan_status;                             /* flag */
+    double outdoor_airflow_normalized;
+    double minimum_outdoor_airflow_setpoint_normalized;
+    double supply_temperature_signal;
+    double outdoor_air_temperature;
+    int64_t operation_mode;
+    double heating_coil;
+    double minimum_outdoor_damper;
+    double supply_air_temperature;
+    uint64_t software_reset;                                /* flag */
+    double supply_fan_speed;
+    double cooling_coil;
+    double mixed_air_temperature;
+    double pressure;
+    int64_t alarm[4];
+    uint64_t proof[4];                                      /* flag */
+};
+
+/* The outputs of all three. */
+struct woldgrater_rooftop_commands {
+    struct woldgrater_econ_commands economizer;
+    struct woldgrater_freeze_commands freeze;
+    struct woldgrater_relief_commands relief;
+};
+
+/* The state after a row, its status, and the commands of an accepted one: those of a refused one are 0 and mean
+ * nothing. */
+struct woldgrater_rooftop_given {
+    struct woldgrater_rooftop_state state;
+    uint64_t status;
+    struct woldgrater_rooftop_commands commands;
+};
+
 /* The line of a row. */
 
 /* The status, and the number of bytes written. */
@@ -415,6 +459,22 @@ struct woldgrater_relief_shown woldgrater_relief_signals(const double times[WOLD
                                                          const double integrals[WOLDGRATER_WINDOW],
                                                          struct woldgrater_relief_state state, struct woldgrater_relief_row row);
 struct woldgrater_alarm_given woldgrater_relief_alarm(struct woldgrater_relief_state state, size_t fan);
+
+/* The joined row: the economizer, freeze protection and the relief fan group of one air handler as one sequence, a call a row.
+ *
+ * One after the other they are handed: the economizer the freeze stage of the last accepted row, 0 before any; freeze protection this
+ * row's outdoor minimum and outdoor and return commands of the economizer; the relief fan group this row's fan status that freeze
+ * protection commands, as both its supply flags. The rest stands in the row. The commands of an accepted row are those of all three.
+ *
+ * A refused row moves none of the three on. The time falls where it is below the last accepted time of any of them. Tried last is that
+ * the numbers which the economizer hands on are finite, refused with WOLDGRATER_NOT_FINITE: from a start they always are.
+ *
+ * The caller lends the two arrays of the relief window, as to woldgrater_relief_row: woldgrater_rooftop_start sets them to 0 and
+ * woldgrater_rooftop_row changes them, in place. A word keeps_hour that is not 0 is woldgrater_freeze_start's. */
+struct woldgrater_rooftop_state woldgrater_rooftop_start(double times[WOLDGRATER_WINDOW], double integrals[WOLDGRATER_WINDOW],
+                                                         uint64_t keeps_hour);
+struct woldgrater_rooftop_given woldgrater_rooftop_row(double times[WOLDGRATER_WINDOW], double integrals[WOLDGRATER_WINDOW],
+                                                       struct woldgrater_rooftop_state state, struct woldgrater_rooftop_row row);
 
 /* ---- The line of a row, for a row file (docs/ROW_FILES.md). Gives status 0 and the line's bytes with its newline, which stand in the
  * first bytes of out; or the refusal, 1 before 10, and 0 bytes, with out as it was. A row's time is not looked at. */

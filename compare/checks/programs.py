@@ -25,7 +25,7 @@ def check_scenarios():
               '' if published and got == published else 'the answers differ')
     tests = subprocess.run([os.path.join(TARGET, 'reference_tests'), '--quiet'],
                            stdout=subprocess.PIPE, text=True)
-    check('R4 and E4, tested on the Rust itself', '' if tests.returncode == 0 else tests.stdout)
+    check('R4, E4 and the row at which the economizer is told of a stage, tested on the Rust itself', '' if tests.returncode == 0 else tests.stdout)
 
 
 def check_edits():
@@ -69,6 +69,9 @@ def check_build():
         check('without rustc the comparison is skipped and says so',
               '' if ended.returncode == 0 and 'skipped' in ended.stdout
               and ended.stdout.endswith('\n0 passed, 0 failed\n') else ended.stdout)
+        ended = subprocess.run([os.path.join(folder, 'compare/rooftop')], env={'PATH': tools}, capture_output=True, text=True)
+        check('without rustc the joined rows are skipped, and that is said',
+              '' if ended.returncode == 77 and 'skipped' in ended.stdout else ended.stdout + ended.stderr)
         check_stale(folder, run)
         script(os.path.join(tools, 'rustc'), '#!/bin/bash\nexit 1\n')
         ended = run()

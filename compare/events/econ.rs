@@ -40,6 +40,12 @@ pub fn see_enable(signals: Enable) {
     ENABLES.with_borrow_mut(|seen| seen.push(signals));
 }
 
+/// What was seen last; nothing is kept.
+#[cfg(calls)]
+pub fn last() -> (Loop, Enable) {
+    (LOOPS.take().pop().unwrap_or_default(), ENABLES.take().pop().unwrap_or_default())
+}
+
 pub fn count(counts: &mut Counts) {
     for (index, row) in LOOPS.take().into_iter().enumerate() {
         counts.when("fan rises on row 0", row.fan_rises && index == 0);

@@ -40,6 +40,12 @@ pub fn stages() -> Vec<i64> {
     SEEN.with_borrow(|seen| seen.iter().map(|row| row.stage).collect())
 }
 
+/// What was seen last; nothing is kept.
+#[cfg(calls)]
+pub fn last() -> Signals {
+    SEEN.take().pop().unwrap_or_default()
+}
+
 pub fn count(counts: &mut Counts) {
     let seen = SEEN.take();
     let times: Vec<f64> = seen.iter().map(|row| row.t).collect();

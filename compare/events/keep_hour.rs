@@ -19,6 +19,12 @@ pub fn see(signals: Signals) {
     SEEN.with_borrow_mut(|seen| seen.push(signals));
 }
 
+/// What was seen last; nothing is kept.
+#[cfg(calls)]
+pub fn last() -> Signals {
+    SEEN.take().pop().unwrap_or_default()
+}
+
 /// `published` are the stages of the same rows from the published start.
 pub fn count(counts: &mut Counts, published: &[i64]) {
     let mut before = Signals::default();

@@ -37,6 +37,12 @@ pub fn see(signals: Signals) {
     SEEN.with_borrow_mut(|seen| seen.push(signals));
 }
 
+/// What was seen last; nothing is kept.
+#[cfg(calls)]
+pub fn last() -> Signals {
+    SEEN.take().pop().unwrap_or_default()
+}
+
 pub fn count(counts: &mut Counts) {
     let seen = SEEN.take();
     let times: Vec<f64> = seen.iter().map(|row| row.t).collect();

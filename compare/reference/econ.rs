@@ -9,6 +9,8 @@ use super::{
 use crate::acceptance::Before;
 use crate::columns::{Columns, put_flag, put_float, put_signed};
 use crate::input::Input;
+#[cfg(any(calls, test))]
+use crate::joined::row as joined;
 use crate::lines::{self, Kind};
 use crate::marks;
 #[cfg(calls)]
@@ -85,6 +87,51 @@ impl crate::calls::Called for Econ {
         put_flag(out, commands.minimum_outdoor_air_loop_enabled != 0);
         put_float(out, commands.outdoor_damper_command);
         put_float(out, commands.return_damper_command);
+    }
+}
+
+/// The accepted joined rows, as this sequence takes them.
+#[cfg(any(calls, test))]
+#[derive(Default)]
+pub struct Wired {
+    times: Vec<f64>,
+    rows: Vec<Row>,
+}
+
+#[cfg(any(calls, test))]
+impl Wired {
+    pub fn push(&mut self, row: &joined::Row, stage: i64) {
+        self.times.push(row.time);
+        self.rows.push(Row {
+            outdoor_airflow_normalized: row.outdoor_airflow_normalized,
+            minimum_outdoor_airflow_setpoint_normalized: row.minimum_outdoor_airflow_setpoint_normalized,
+            supply_temperature_signal: row.supply_temperature_signal,
+            outdoor_air_temperature: row.outdoor_air_temperature,
+            supply_fan_status: row.supply_fan_status,
+            operation_mode: row.operation_mode,
+            freeze_protection_stage: stage,
+        });
+    }
+
+    pub fn pop(&mut self) {
+        self.times.pop();
+        self.rows.pop();
+    }
+
+    /// What the trace over the whole list has from row `first` on.
+    pub fn commands(&self, first: usize) -> Vec<joined::Economizer> {
+        let trace = economizer_controller_trace(&self.times, &self.rows);
+        let at = |index: usize| joined::Economizer {
+            outdoor_damper_min_limit: trace.outdoor_damper_min_limit[index],
+            minimum_outdoor_air_loop_enabled: trace.minimum_outdoor_air_loop_enabled[index].into(),
+            outdoor_damper_command: trace.outdoor_damper_command[index],
+            return_damper_command: trace.return_damper_command[index],
+        };
+        (first..self.rows.len()).map(at).collect()
+    }
+
+    pub fn last(&self) -> joined::Economizer {
+        self.commands(self.rows.len() - 1)[0]
     }
 }
 

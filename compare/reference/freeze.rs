@@ -6,9 +6,13 @@ use super::{
     Inputs, PidState, ThresholdState, TimerState, Trace, expected_times, fine_step, freeze_protection_trace, input_row,
     input_rows,
 };
+#[cfg(any(calls, test))]
+use super::keep_hour;
 use crate::acceptance::Before;
 use crate::columns::{Columns, put_flag, put_float, put_signed};
 use crate::input::Input;
+#[cfg(any(calls, test))]
+use crate::joined::row as joined;
 use crate::lines::{self, Kind};
 use crate::marks;
 #[cfg(calls)]
@@ -112,6 +116,69 @@ impl crate::calls::Called for Freeze {
         put_float(out, commands.heating_coil_command);
         put_signed(out, commands.hot_water_plant_request as i64);
         put_signed(out, commands.alarm_level as i64);
+    }
+}
+
+/// The accepted joined rows, as this sequence takes them, in either start.
+#[cfg(any(calls, test))]
+pub struct Wired {
+    keeps_hour: bool,
+    times: Vec<f64>,
+    rows: Vec<Inputs>,
+}
+
+#[cfg(any(calls, test))]
+impl Wired {
+    pub fn start(keeps_hour: bool) -> Self {
+        Self { keeps_hour, times: Vec::new(), rows: Vec::new() }
+    }
+
+    pub fn push(&mut self, row: &joined::Row, economizer: &joined::Economizer) {
+        self.times.push(row.time);
+        self.rows.push(Inputs {
+            outdoor_damper_min_position: economizer.outdoor_damper_min_limit,
+            outdoor_damper: economizer.outdoor_damper_command,
+            heating_coil: row.heating_coil,
+            minimum_outdoor_damper: row.minimum_outdoor_damper,
+            return_damper: economizer.return_damper_command,
+            supply_air_temperature: row.supply_air_temperature,
+            software_reset: row.software_reset,
+            supply_fan_status: row.supply_fan_status,
+            supply_fan_speed: row.supply_fan_speed,
+            cooling_coil: row.cooling_coil,
+            mixed_air_temperature: row.mixed_air_temperature,
+        });
+    }
+
+    pub fn pop(&mut self) {
+        self.times.pop();
+        self.rows.pop();
+    }
+
+    /// What the trace over the whole list has from row `first` on.
+    pub fn commands(&self, first: usize) -> Vec<joined::Freeze> {
+        let trace = match self.keeps_hour {
+            true => keep_hour::KeepHour::trace(&self.times, &self.rows),
+            false => freeze_protection_trace(&self.times, &self.rows),
+        };
+        let at = |index: usize| joined::Freeze {
+            freeze_protection_stage: trace.freeze_protection_stage[index] as u64,
+            chilled_water_pump_enable: trace.chilled_water_pump_enable[index].into(),
+            return_damper_command: trace.return_damper_command[index],
+            outdoor_damper_command: trace.outdoor_damper_command[index],
+            minimum_outdoor_damper_command: trace.minimum_outdoor_damper_command[index],
+            supply_fan_status: trace.supply_fan_status[index].into(),
+            supply_fan_speed: trace.supply_fan_speed[index],
+            cooling_coil_command: trace.cooling_coil_command[index],
+            heating_coil_command: trace.heating_coil_command[index],
+            hot_water_plant_request: trace.hot_water_plant_request[index] as u64,
+            alarm_level: trace.alarm_level[index] as u64,
+        };
+        (first..self.rows.len()).map(at).collect()
+    }
+
+    pub fn last(&self) -> joined::Freeze {
+        self.commands(self.rows.len() - 1)[0]
     }
 }
 

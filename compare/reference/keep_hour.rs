@@ -13,7 +13,7 @@ use crate::columns::Columns;
 use crate::input::Input;
 use crate::lines::{self, Kind};
 
-struct KeepHour;
+pub(super) struct KeepHour;
 
 impl Kind for KeepHour {
     type Row = Inputs;

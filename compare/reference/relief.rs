@@ -6,6 +6,8 @@ use super::{Inputs, TimerState, Trace, TrueDelayState, expected_times, input_row
 use crate::acceptance::Before;
 use crate::columns::{Columns, put_flag, put_float, put_signed};
 use crate::input::Input;
+#[cfg(any(calls, test))]
+use crate::joined::row as joined;
 use crate::lines::{self, Kind};
 use crate::marks;
 #[cfg(calls)]
@@ -90,6 +92,38 @@ impl crate::calls::Called for Relief {
         put_float(out, commands.damper_2);
         put_float(out, commands.damper_3);
         put_float(out, commands.damper_4);
+    }
+}
+
+/// The accepted joined rows, as this sequence takes them.
+#[cfg(any(calls, test))]
+#[derive(Default)]
+pub struct Wired {
+    times: Vec<f64>,
+    rows: Vec<Inputs>,
+}
+
+#[cfg(any(calls, test))]
+impl Wired {
+    pub fn push(&mut self, row: &joined::Row, supply: [bool; 2]) {
+        self.times.push(row.time);
+        self.rows.push(Inputs { supply, pressure: row.pressure, alarm: row.alarm, proof: row.proof });
+    }
+
+    /// What the trace over the whole list has from row `first` on.
+    pub fn commands(&self, first: usize) -> Vec<joined::Relief> {
+        let trace = relief_fan_group_trace(&self.times, &self.rows);
+        let each = |outputs: &[Vec<f64>; 4], index: usize| [0, 1, 2, 3].map(|fan| outputs[fan][index]);
+        let at = |index: usize| joined::Relief {
+            averaged_pressure: trace.averaged_pressure[index],
+            fan_speed: each(&trace.fan_speed, index),
+            damper: each(&trace.damper, index),
+        };
+        (first..self.rows.len()).map(at).collect()
+    }
+
+    pub fn last(&self) -> joined::Relief {
+        self.commands(self.rows.len() - 1)[0]
     }
 }
 

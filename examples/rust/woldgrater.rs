@@ -314,6 +314,50 @@ pub struct AlarmGiven {
 
 #[repr(C)]
 #[derive(Clone, Copy)]
+pub struct RooftopState {
+    words: [u64; 265],
+}
+
+#[repr(C)]
+#[derive(Clone, Copy)]
+pub struct RooftopRow {
+    pub time: f64,
+    pub supply_fan_status: u64,
+    pub outdoor_airflow_normalized: f64,
+    pub minimum_outdoor_airflow_setpoint_normalized: f64,
+    pub supply_temperature_signal: f64,
+    pub outdoor_air_temperature: f64,
+    pub operation_mode: i64,
+    pub heating_coil: f64,
+    pub minimum_outdoor_damper: f64,
+    pub supply_air_temperature: f64,
+    pub software_reset: u64,
+    pub supply_fan_speed: f64,
+    pub cooling_coil: f64,
+    pub mixed_air_temperature: f64,
+    pub pressure: f64,
+    pub alarm: [i64; 4],
+    pub proof: [u64; 4],
+}
+
+#[repr(C)]
+#[derive(Clone, Copy)]
+pub struct RooftopCommands {
+    pub economizer: EconCommands,
+    pub freeze: FreezeCommands,
+    pub relief: ReliefCommands,
+}
+
+#[repr(C)]
+#[derive(Clone, Copy)]
+pub struct RooftopGiven {
+    pub state: RooftopState,
+    pub status: u64,
+    pub commands: RooftopCommands,
+}
+
+#[repr(C)]
+#[derive(Clone, Copy)]
 pub struct LineGiven {
     pub status: u64,
     pub len: usize,

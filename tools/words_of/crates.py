@@ -10,6 +10,7 @@ HOMES = {
     'freeze_protection': 'freeze_words',
     'economizer_controller': 'econ_words',
     'relief_fan_group': 'relief_words',
+    'rooftop': 'rooftop_words',
     'row_kinds': 'reader_words',
 }
 ABOUT = {
@@ -17,12 +18,13 @@ ABOUT = {
     'freeze_words': 'freeze protection',
     'econ_words': 'the economizer',
     'relief_words': 'the relief fan group',
+    'rooftop_words': 'the joined row',
     'reader_words': 'the row reader',
 }
 # what is asked of a type: `of`, its words; `value`, what words stand for; `zero`, words that are all 0 by default
-STATES = ['FreezeState', 'EconomizerState', 'ReliefHeld', 'RowReader']
-ROWS = ['FreezeRow', 'EconomizerRow', 'ReliefRow']
-GIVEN = ['FreezeCommands', 'EconomizerCommands', 'ReliefCommands', 'FreezeSignals', 'EconomizerSignals', 'ReliefSignals', 'FreezeLeft', 'ReliefLeft']
+STATES = ['FreezeState', 'EconomizerState', 'ReliefHeld', 'RooftopHeld', 'RowReader']
+ROWS = ['FreezeRow', 'EconomizerRow', 'ReliefRow', 'RooftopRow']
+GIVEN = ['FreezeCommands', 'EconomizerCommands', 'ReliefCommands', 'RooftopCommands', 'FreezeSignals', 'EconomizerSignals', 'ReliefSignals', 'FreezeLeft', 'ReliefLeft']
 FOLDERS = [f'crates/{crate}/{part}' for crate in ABOUT for part in ('src', 'specs', 'proofs')]
 
 

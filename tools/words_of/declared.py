@@ -19,9 +19,11 @@ class Type:
         self.holds = {variant: snake(variant) for variant, _ in variants or []}
         self.base = name.removesuffix('State').removesuffix('Held') or name
         self.words = self.base + 'Words'
-        self.file = snake(self.base)
+        called = snake(self.base)
+        # a module is not called as a library
+        self.file = f'{called}_state' if called == crate else called
         self.page = self.base
-        self.to, self.back, self.zero, self.law = (f'{self.file}_{ending}' for ending in ('words', 'of', 'zero', 'back'))
+        self.to, self.back, self.zero, self.law = (f'{called}_{ending}' for ending in ('words', 'of', 'zero', 'back'))
 
 
 def snake(name):

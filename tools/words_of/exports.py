@@ -5,7 +5,7 @@ import re
 
 # the modules of each library that have functions to be exported
 LIBRARIES = {
-    'woldgrater': ['freeze', 'econ', 'relief'],
+    'woldgrater': ['freeze', 'econ', 'relief', 'joined'],
     'woldgrater_service': ['freeze', 'econ', 'relief', 'play', 'chunks'],
 }
 FUNCTION = re.compile(r"((?://.*\n)+)(?:#\[.*\]\n)*pub fn (woldgrater_\w+)(<'a>)?\(([^)]*)\) -> (\w+)\n((?:    .*\n)+)\{", re.M)

@@ -5,6 +5,8 @@ import re
 from . import declared
 
 COUNTS = {4: 'four'}
+# a struct of more fields is long
+LONG = 12
 MADE = 'Written by tools/words.'
 
 
@@ -148,6 +150,16 @@ class Names:
     def list_call(self, kind, length, what):
         """The function that makes a list of a type over."""
         return f'{kind.file}_{"words" if what == "of" else "values"}_of_{COUNTS[length]}'
+
+    def flag_lists(self, kind):
+        """The lengths of the lists of flags of a long struct."""
+        if not kind.fields or len(kind.fields) <= LONG:
+            return []
+        return sorted({declared.array(part)[1] for _, part in kind.fields if declared.array(part) and declared.element(part) == 'bool'})
+
+    def flags_call(self, length, what):
+        """The function that makes such a list over."""
+        return f'flag_{"words" if what == "of" else "values"}_of_{COUNTS[length]}'
 
     def spec_call(self, part, what, text):
         """What a part becomes, as a definition says it."""

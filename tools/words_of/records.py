@@ -6,7 +6,7 @@ import textwrap
 from . import declared
 
 # the states, which C sees as words only, and what the calls take and give, in the order of the header
-OPAQUE = ['FreezeState', 'ReliefHeld', 'EconomizerState', 'State']
+OPAQUE = ['FreezeState', 'ReliefHeld', 'EconomizerState', 'RooftopHeld', 'State']
 SEQUENCES = [
     ('Timers', ['TimerOutput']),
     ('Freeze protection', ['FreezeState', 'FreezeRow', 'FreezeCommands', 'FreezeCalls', 'FreezeSignals', 'FreezeLeft', 'FreezeGiven',
@@ -15,12 +15,13 @@ SEQUENCES = [
                     'EconomizerGiven', 'EconomizerShown']),
     ('Relief fan group', ['ReliefHeld', 'ReliefRow', 'ReliefCommands', 'PressureControl', 'DamperEnable', 'StageUp', 'StageDown', 'ReliefSignals',
                           'ReliefLeft', 'ReliefGiven', 'ReliefShown', 'AlarmGiven']),
+    ('The joined row', ['RooftopHeld', 'RooftopRow', 'RooftopCommands', 'RooftopGiven']),
     ('The line of a row', ['LineGiven']),
     ('Row files', ['State', 'Fed']),
 ]
 C = {'f64': 'double', 'u64': 'uint64_t', 'usize': 'size_t', 'i64': 'int64_t', 'bool': 'uint64_t'}
 RUST = {'f64': 'f64', 'u64': 'u64', 'usize': 'usize', 'i64': 'i64', 'bool': 'u64'}
-NAMES = {'FreezeState': 'freeze_state', 'EconomizerState': 'econ_state', 'ReliefHeld': 'relief_state', 'LineGiven': 'line_given', 'State': 'state'}
+NAMES = {'FreezeState': 'freeze_state', 'EconomizerState': 'econ_state', 'ReliefHeld': 'relief_state', 'RooftopHeld': 'rooftop_state', 'LineGiven': 'line_given', 'State': 'state'}
 # a field whose name is a word of C++
 C_FIELDS = {'xor': 'xor_y'}
 BEGIN, END = 'records, written by tools/words', 'end of the records'
@@ -31,7 +32,7 @@ def c_name(name):
 
 
 def rust_name(name):
-    return {'EconomizerState': 'EconState', 'ReliefHeld': 'ReliefState'}.get(name, name.replace('Economizer', 'Econ'))
+    return {'EconomizerState': 'EconState', 'ReliefHeld': 'ReliefState', 'RooftopHeld': 'RooftopState'}.get(name, name.replace('Economizer', 'Econ'))
 
 
 class Records:

@@ -31,7 +31,11 @@ class Sources(Names):
 
     def source(self, kind, asked):
         names = [name for what, name in (('of', kind.to), ('value', kind.back), ('zero', kind.zero)) if what in asked]
-        lines = [f'// `{kind.typed}` {self.of_crate(kind)}as words. {MADE}', 'ghost use Rattle.std.specs.Prelude.{◌≡◌' + (', map' if self.lists_of(kind) else '') + '};']
+        flags = [(length, what) for length in self.flag_lists(kind) for what in sorted(asked - {'zero'})]
+        lines = [f'// `{kind.typed}` {self.of_crate(kind)}as words. {MADE}',
+                 'ghost use Rattle.std.specs.Prelude.{◌≡◌' + (', map' if self.lists_of(kind) or flags else '') + '};']
+        if flags:
+            lines.append(f'ghost use {self.flags_page()}.{{{", ".join("flag_word" if what == "of" else "word_flag" for _, what in flags)}}};')
         lines += [f'ghost use Rattle.{self.crate}.specs.{kind.page}.{{{", ".join(names)}}};', '']
         lines += grouped(self.uses(kind, asked))
         lines += [''] + (['// The number of the variant, and a place for what each holds: C has no enum that carries a value.'] if kind.variants else [])
@@ -48,6 +52,8 @@ class Sources(Names):
             lines += self.zero_made(kind)
         for length, what in self.lists_of(kind):
             lines += self.list_made(kind, length, what)
+        for length, what in flags:
+            lines += self.flags_made(length, what)
         return '\n'.join(lines) + '\n'
 
     def lists_of(self, kind):
@@ -63,6 +69,16 @@ class Sources(Names):
                 f'pub fn {name}({argument}: [{given}; {length}]) -> [{made}; {length}]',
                 f'    ensures {{ result ≡ map {kind.to if what == "of" else kind.back} {argument} }}', '{',
                 f'    array::from_fn(|i| {made}::from({argument}[i]))', '}']
+
+    def flags_made(self, length, what):
+        """A list of flags of a long struct made over: by a function too."""
+        argument, given, made = ('values', 'bool', 'u64') if what == 'of' else ('words', 'u64', 'bool')
+        definition = 'flag_word' if what == 'of' else 'word_flag'
+        return ['', '// A function of its own: the check does not find such a list written inside a long struct.',
+                f'#[tactic(auto, unfolding({self.flags_specs()}::{definition}))]', '#[inline(always)]',
+                f'fn {self.flags_call(length, what)}({argument}: [{given}; {length}]) -> [{made}; {length}]',
+                f'    ensures {{ result ≡ map {definition} {argument} }}', '{',
+                f'    {self.call(f"[bool; {length}]", what).format(argument)}', '}']
 
     def conversion(self, given, made, gives, kind, what, body):
         """An `impl From`. Its proof opens the definitions, the rest is found. The compiler takes it into its caller: else a call of the archives
@@ -92,15 +108,17 @@ class Sources(Names):
             return 'The number of the variant, and what it holds; 0 for what the others would.'
         return f'A number that no variant has is read as `{kind.variants[-1][0]}`.'
 
-    def made_of(self, owner, name, part, what):
-        """A field of what is made."""
+    def made_of(self, owner, name, part, what, kind=None):
+        """A field of what is made, in a struct or in a list."""
+        if kind and declared.element(part) == 'bool' and declared.array(part) and self.flag_lists(kind):
+            return f'{self.flags_call(declared.array(part)[1], what)}({owner}.{name})'
         return (self.call(part, what) or '{}').format(f'{owner}.{name}')
 
     def struct_made(self, owner, made, fields, kind, what):
         """A struct made of another. Arrays are named first: of some structs the borrow checker takes them from variables only."""
         lists = [(name, part) for name, part in kind.fields if declared.array(part)]
         lines = ['        // By name first: the borrow checker takes some of these arrays from variables only.'] if lists else []
-        lines += [f'        let {name} = {self.made_of(owner, name, part, what)};' for name, part in lists] + [f'        {made} {{']
+        lines += [f'        let {name} = {self.made_of(owner, name, part, what, kind)};' for name, part in lists] + [f'        {made} {{']
         for name, part in fields:
             if (name, part) in lists:
                 lines.append(f'            {name},')

@@ -1,4 +1,5 @@
 -- Laws that the proofs of the functions that are exported cite, and the theorem on calls one after another.
 pub mod AnswerCalls
-pub mod ReliefCalls
+pub mod WindowCalls
 pub mod Calls
+pub mod RooftopCalls

@@ -1,5 +1,7 @@
 -- What a caller gets, a call a row.
 pub mod Answered
+pub mod Memory
 pub mod Freeze
 pub mod Economizer
 pub mod Relief
+pub mod Rooftop

@@ -11,15 +11,11 @@ use Rattle.woldgrater.specs.declared.answered.Answered.{Answered}
 use Rattle.relief_words.specs.declared.relief.ReliefWords.{ReliefWords}
 use Rattle.woldgrater.specs.declared.relief.ReliefGiven.{ReliefGiven}
 use Rattle.woldgrater.specs.Answered.{answered}
+use Rattle.woldgrater.specs.Memory.{Memory, memory, Called}
 
 -- what a caller holds: the words, and the arrays of the window
-pub record ReliefMemory : Type 0 where
-  pub words : ReliefWords
-  pub times : List Float
-  pub integrals : List Float
-
-abbrev pub memory : ReliefWords → List Float → List Float → ReliefMemory
-memory words times integrals = record { words = words; times = times; integrals = integrals }
+abbrev pub ReliefMemory : Type 0
+ReliefMemory = Memory ReliefWords
 
 -- of a state, and the state that it stands for
 abbrev pub relief_memory : ReliefState → ReliefMemory
@@ -32,10 +28,9 @@ relief_in m = lent_state (relief_of m.words) m.times m.integrals
 abbrev pub relief_answered : ReliefAnswer → Answered ReliefCommandsWords
 relief_answered = answered relief_commands_words relief_commands_zero
 
--- what a call leaves: the memory for the next one, the status and the commands
-pub record ReliefCalled : Type 0 where
-  pub left : ReliefMemory
-  pub answered : Answered ReliefCommandsWords
+-- what a call leaves
+abbrev pub ReliefCalled : Type 0
+ReliefCalled = Called ReliefWords ReliefCommandsWords
 
 abbrev pub relief_called : ReliefGiven → List Float → List Float → ReliefCalled
 relief_called given times integrals = record { left = memory given.state times integrals; answered = record { status = given.status; commands = given.commands } }

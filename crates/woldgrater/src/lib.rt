@@ -4,4 +4,5 @@
 pub mod answered;
 pub mod econ;
 pub mod freeze;
+pub mod joined;
 pub mod relief;

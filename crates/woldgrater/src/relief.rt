@@ -2,7 +2,8 @@
 ghost use Rattle.std.specs.Prelude.{◌≡◌};
 ghost use Rattle.relief_fan_group.specs.Step.{relief_fresh, relief_row};
 ghost use Rattle.relief_words.specs.ReliefRow.{relief_row_of};
-ghost use Rattle.woldgrater.specs.Relief.{memory, relief_memory, relief_in, relief_called, relief_given};
+ghost use Rattle.woldgrater.specs.Memory.{memory};
+ghost use Rattle.woldgrater.specs.Relief.{relief_memory, relief_in, relief_called, relief_given};
 
 use crate::answered::Answered;
 use relief_fan_group::lent::{held_fresh, relief_row_lent};

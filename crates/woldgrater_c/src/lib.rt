@@ -3,4 +3,5 @@
 
 pub mod econ;
 pub mod freeze;
+pub mod joined;
 pub mod relief;

@@ -6,7 +6,8 @@ ghost use Rattle.row_writer.specs.Writing.{write_row, ReadsBack};
 ghost use Rattle.relief_lines.specs.Relief.{relief_kind};
 ghost use Rattle.relief_words.specs.ReliefBlocks.{relief_blocks_of};
 ghost use Rattle.relief_words.specs.ReliefRow.{relief_row_of};
-ghost use Rattle.woldgrater.specs.Relief.{memory, relief_in};
+ghost use Rattle.woldgrater.specs.Memory.{memory};
+ghost use Rattle.woldgrater.specs.Relief.{relief_in};
 ghost use Rattle.woldgrater_service.specs.Line.{LineLeft};
 ghost use Rattle.woldgrater_service.specs.Shown.{relief_shown, alarm_given};
 

@@ -3,7 +3,7 @@ use Rattle.std.proofs.Common.{ap, ◌∙◌}
 use Rattle.moving_average.specs.State.{moving_average_new}
 use Rattle.relief_fan_group.specs.Step.{relief_fresh}
 use Rattle.relief_words.specs.Relief.{relief_words}
-use Rattle.woldgrater.specs.Relief.{memory}
+use Rattle.woldgrater.specs.Memory.{memory}
 use Rattle.woldgrater.proofs.relief.woldgrater_relief_start.Goals as goal
 
 pub returns : goal.returns
