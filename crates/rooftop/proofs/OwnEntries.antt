@@ -5,7 +5,6 @@ use mathlib.Core.Path.{◌≡◌, refl}
 use mathlib.Core.Bool.{Bool, true, false, not, ◌&&◌, ◌||◌, true≢false}
 use lib.Dec.{T}
 use lib.Ieee.Scale.{finite}
-use lib.IntN.{ℤ}
 use Rattle.reals.specs.Sign.{is_sign_negative}
 use Rattle.reals.specs.Seen.{seen_above}
 use Rattle.reals.proofs.Truth.{is_true, holds}
@@ -27,7 +26,7 @@ use Rattle.rooftop.specs.declared.types.RooftopRow.{RooftopRow}
 use Rattle.rooftop.specs.declared.types.RooftopState.{RooftopState}
 use Rattle.rooftop.specs.Wiring.{economizer_row_of, freeze_row_of, relief_row_of}
 use Rattle.rooftop.specs.Verdict.{numbers_finite, handed_on_finite, falls, rooftop_verdict}
-use Rattle.rooftop.specs.Step.{economizer_accepted, freeze_accepted, economizer_at, freeze_at, relief_at, verdict_at}
+use Rattle.rooftop.specs.Step.{economizer_accepted, freeze_accepted, economizer_handed, economizer_at, freeze_handed, freeze_at, relief_handed, relief_at, verdict_at}
 
 -- ---- what the economizer hands on is finite, whatever its state and its row: the 1 that comes last is never given
 pub always_finite : (state : EconomizerState) (row : EconomizerRow) → handed_on_finite (economizer_accepted state row).0 ≡ true
@@ -41,7 +40,7 @@ pub verdict_is_judged : (state : RooftopState) (row : RooftopRow)
     ≡ relief.after_judged (judge_by (numbers_finite row) row.time (falls state.economizer.last state.freeze.last state.relief.blocks.last row.time)) row.alarm
     (moving_average_is_full state.relief.window row.time)
 unfolding rooftop_verdict
-verdict_is_judged state row = rw (always_finite state.economizer (economizer_row_of row state.stage)) (no_more _ NotFinite)
+verdict_is_judged state row = rw (always_finite state.economizer (economizer_handed state row)) (no_more _ NotFinite)
 
 twelve : (a b c d e f g h i j k l : Bool) → T (a && b && c && d && e && f && g && h && i && j && k && l)
     → (a ≡ true) × (b ≡ true) × (c ≡ true) × (d ≡ true) × (e ≡ true) × (f ≡ true) × (g ≡ true) × (h ≡ true) × (i ≡ true) × (j ≡ true) × (k ≡ true) × (l ≡ true)
@@ -114,32 +113,30 @@ module _ (state : RooftopState) (row : RooftopRow) (accepted : verdict_at state 
   numbers = each_finite row tests.0
 
   -- ---- the economizer's own entry
-  module _ (stage : ℤ) where
-    economizer_numbers : T (economizer.numbers_finite (economizer_row_of row stage))
-    unfolding economizer.numbers_finite economizer_row_of
-    economizer_numbers = rw (numbers.0, numbers.1, numbers.2, numbers.3, numbers.4) tt
+  economizer_numbers : T (economizer.numbers_finite (economizer_handed state row))
+  unfolding economizer.numbers_finite economizer_row_of
+  economizer_numbers = rw (numbers.0, numbers.1, numbers.2, numbers.3, numbers.4) tt
 
-    pub economizer_accepts : economizer.economizer_verdict state.economizer (economizer_row_of row stage) ≡ Ok tt
-    unfolding economizer.economizer_verdict judge economizer_row_of
-    economizer_accepts = judge_accepts (economizer.numbers_finite (economizer_row_of row stage)) row.time _ economizer_numbers tests.1 not_below.0
+  pub economizer_accepts : economizer.economizer_verdict state.economizer (economizer_handed state row) ≡ Ok tt
+  unfolding economizer.economizer_verdict judge economizer_row_of
+  economizer_accepts = judge_accepts (economizer.numbers_finite (economizer_handed state row)) row.time _ economizer_numbers tests.1 not_below.0
 
-  pub own_economizer : economizer_step.economizer_row state.economizer (economizer_row_of row state.stage)
+  pub own_economizer : economizer_step.economizer_row state.economizer (economizer_handed state row)
       ≡ record { answer = Ok (economizer_at state row).0; state = (economizer_at state row).1 }
   unfolding economizer_step.economizer_row economizer_step.step_by economizer_accepted
-  own_economizer = rw (economizer_accepts state.stage) refl
+  own_economizer = rw economizer_accepts refl
 
   -- ---- freeze protection's
-  freeze_numbers : T (freeze.numbers_finite (freeze_row_of row (economizer_at state row).0))
+  freeze_numbers : T (freeze.numbers_finite (freeze_handed state row))
   unfolding freeze.numbers_finite freeze_row_of economizer_accepted
   freeze_numbers =
-      let handed = economizer_row_of row state.stage in
       rw (
         numbers.0,
-        is_true _ (min_limit_finite state.economizer handed),
-        is_true _ (outdoor_command_finite state.economizer handed),
+        is_true _ (min_limit_finite state.economizer (economizer_handed state row)),
+        is_true _ (outdoor_command_finite state.economizer (economizer_handed state row)),
         numbers.5,
         numbers.6,
-        is_true _ (return_command_finite state.economizer handed),
+        is_true _ (return_command_finite state.economizer (economizer_handed state row)),
         numbers.7,
         numbers.8,
         numbers.9,
@@ -147,30 +144,27 @@ module _ (state : RooftopState) (row : RooftopRow) (accepted : verdict_at state 
       )
       tt
 
-  pub freeze_accepts : freeze.freeze_verdict state.freeze (freeze_row_of row (economizer_at state row).0) ≡ Ok tt
+  pub freeze_accepts : freeze.freeze_verdict state.freeze (freeze_handed state row) ≡ Ok tt
   unfolding freeze.freeze_verdict judge freeze_row_of
-  freeze_accepts = judge_accepts (freeze.numbers_finite (freeze_row_of row (economizer_at state row).0)) row.time _ freeze_numbers tests.1 not_below.1
+  freeze_accepts = judge_accepts (freeze.numbers_finite (freeze_handed state row)) row.time _ freeze_numbers tests.1 not_below.1
 
-  pub own_freeze : freeze_step.freeze_row state.freeze (freeze_row_of row (economizer_at state row).0)
-      ≡ record { answer = Ok (freeze_at state row).0; state = (freeze_at state row).1 }
+  pub own_freeze : freeze_step.freeze_row state.freeze (freeze_handed state row) ≡ record { answer = Ok (freeze_at state row).0; state = (freeze_at state row).1 }
   unfolding freeze_step.freeze_row freeze_step.step_by freeze_accepted
   own_freeze = rw freeze_accepts refl
 
   -- ---- the relief fan group's
-  module _ (fan : Bool) where
-    relief_numbers : T (relief.numbers_finite (relief_row_of row fan))
-    unfolding relief.numbers_finite relief_row_of
-    relief_numbers = rw (numbers.0, numbers.11) tt
+  relief_numbers : T (relief.numbers_finite (relief_handed state row))
+  unfolding relief.numbers_finite relief_row_of
+  relief_numbers = rw (numbers.0, numbers.11) tt
 
-    relief_judged : judge (relief.numbers_finite (relief_row_of row fan)) row.time state.relief.blocks.last ≡ Ok tt
-    unfolding judge
-    relief_judged = judge_accepts (relief.numbers_finite (relief_row_of row fan)) row.time _ relief_numbers tests.1 not_below.2
+  relief_judged : judge (relief.numbers_finite (relief_handed state row)) row.time state.relief.blocks.last ≡ Ok tt
+  unfolding judge
+  relief_judged = judge_accepts (relief.numbers_finite (relief_handed state row)) row.time _ relief_numbers tests.1 not_below.2
 
-    pub relief_accepts : relief.relief_verdict state.relief.blocks (relief_row_of row fan) full ≡ Ok tt
-    unfolding relief.relief_verdict relief_row_of
-    relief_accepts = rw relief_judged (rw judged_ok at after)
+  pub relief_accepts : relief.relief_verdict state.relief.blocks (relief_handed state row) full ≡ Ok tt
+  unfolding relief.relief_verdict relief_row_of
+  relief_accepts = rw relief_judged (rw judged_ok at after)
 
-  pub own_relief : relief_step.relief_row state.relief (relief_row_of row (freeze_at state row).0.supply_fan_status)
-      ≡ record { answer = Ok (relief_at state row).0; state = (relief_at state row).1 }
+  pub own_relief : relief_step.relief_row state.relief (relief_handed state row) ≡ record { answer = Ok (relief_at state row).0; state = (relief_at state row).1 }
   unfolding relief_step.relief_row relief_step.step_by relief_row_of
-  own_relief = rw (relief_accepts (freeze_at state row).0.supply_fan_status) refl
+  own_relief = rw relief_accepts refl

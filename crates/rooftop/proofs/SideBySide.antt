@@ -104,7 +104,7 @@ module _ (k : Bool) where
         pub economizer_takes : economizer.verdict_of (wired k h).economizer (economizer_in k (wired k h) x) ≡ Ok tt
         economizer_takes =
             ap (λ (p : economizer.Past). economizer.verdict_of p (economizer_in k (wired k h) x)) (sym (accepted_whole economizer.verdict_of (wired k h).economizer alone.economizer))
-            ∙ sym (economizer_reads.verdict_reads (economizer_in k (wired k h) x) (wired k h).economizer) ∙ economizer_accepts here x ok here.stage
+            ∙ sym (economizer_reads.verdict_reads (economizer_in k (wired k h) x) (wired k h).economizer) ∙ economizer_accepts here x ok
 
         pub freeze_takes : freeze.verdict_of (wired k h).freeze (freeze_in k (wired k h) x) ≡ Ok tt
         freeze_takes =
@@ -115,7 +115,7 @@ module _ (k : Bool) where
         relief_takes =
             ap (λ (p : relief.Past). relief.verdict_of p (relief_in k (wired k h) x)) (sym (accepted_whole relief.verdict_of (wired k h).relief alone.relief))
             ∙ sym (relief_reads.verdict_reads (relief_in k (wired k h) x) (wired k h).relief)
-            ∙ (unfold relief_row_of in relief_accepts here x ok (freeze_out k (wired k h) x).supply_fan_status)
+            ∙ (unfold relief_row_of economizer_accepted freeze_accepted in relief_accepts here x ok)
 
         -- so it accepts all that are wired to it up to here
         alone_more : Alone (x ∷ h)

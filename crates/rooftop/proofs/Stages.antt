@@ -13,7 +13,6 @@ use Rattle.refusals.specs.Step.{stepped}
 use Rattle.past.specs.Whole.{state_after, accepted}
 use Rattle.freeze_protection.specs.Stages.{StageThree, StageTwo}
 use Rattle.freeze_protection.proofs.Stages.{stage_3, stage_2}
-use Rattle.relief_fan_group.specs.declared.types.ReliefRow.{ReliefRow}
 use Rattle.relief_fan_group.specs.Alarms.{speeds_of}
 use Rattle.relief_fan_group.specs.Step.{relief_row}
 use Rattle.relief_fan_group.proofs.SupplyOff.{still_from_fresh}
@@ -21,8 +20,8 @@ use Rattle.relief_fan_group.proofs.SupplyOffMean.{still_by_mean}
 use Rattle.rooftop.specs.declared.types.RooftopRow.{RooftopRow}
 use Rattle.rooftop.specs.declared.types.RooftopState.{RooftopState}
 use Rattle.rooftop.specs.declared.types.RooftopCommands.{RooftopCommands}
-use Rattle.rooftop.specs.Wiring.{freeze_row_of, relief_row_of}
-use Rattle.rooftop.specs.Step.{rooftop_start, freeze_accepted, economizer_at, freeze_at, relief_at, rooftop_commands, rooftop_next, rooftop_row, verdict_at}
+use Rattle.rooftop.specs.Wiring.{relief_row_of}
+use Rattle.rooftop.specs.Step.{rooftop_start, freeze_accepted, freeze_handed, relief_handed, freeze_at, relief_at, rooftop_commands, rooftop_next, rooftop_row, verdict_at}
 use Rattle.rooftop.specs.Reading.{verdict_of, wired, state_alone}
 use Rattle.rooftop.specs.Told.{rooftop_returned}
 use Rattle.rooftop.specs.Stages.{RooftopStageThree, RooftopStageTwo}
@@ -42,26 +41,23 @@ module _ (state : RooftopState) (row : RooftopRow) where
 
   freeze_3 : (freeze_at state row).0.freeze_protection_stage ≡ 3 → StageThree (freeze_at state row).0
   unfolding freeze_accepted
-  freeze_3 e = stage_3 state.freeze (freeze_row_of row (economizer_at state row).0) e
+  freeze_3 e = stage_3 state.freeze (freeze_handed state row) e
 
   freeze_2 : (freeze_at state row).0.freeze_protection_stage ≡ 2 → StageTwo (freeze_at state row).0
   unfolding freeze_accepted
-  freeze_2 e = stage_2 state.freeze (freeze_row_of row (economizer_at state row).0) e
+  freeze_2 e = stage_2 state.freeze (freeze_handed state row) e
 
-  -- the row that the relief fan group is handed, and its own entry's answer to it
-  abbrev handed : ReliefRow
-  handed = relief_row_of row (freeze_at state row).0.supply_fan_status
-
-  relief_answers : verdict_at state row ≡ Ok tt → (relief_row state.relief handed).answer ≡ Ok (relief_at state row).0
+  -- the answer of the relief fan group's own entry to the row that it is handed
+  relief_answers : verdict_at state row ≡ Ok tt → (relief_row state.relief (relief_handed state row)).answer ≡ Ok (relief_at state row).0
   relief_answers ok = ap (λ s. s.answer) (own_relief state row ok)
 
-  supply_off : (freeze_at state row).0.supply_fan_status ≡ false → handed.supply ≡ false ∷ false ∷ []
+  supply_off : (freeze_at state row).0.supply_fan_status ≡ false → (relief_handed state row).supply ≡ false ∷ false ∷ []
   unfolding relief_row_of
   supply_off e = rw e refl
 
   -- stage 3, where the speeds are known to be 0
   three : (c : RooftopCommands) → (rooftop_row state row).answer ≡ Ok c → c.freeze.freeze_protection_stage ≡ 3
-      → (verdict_at state row ≡ Ok tt → handed.supply ≡ false ∷ false ∷ [] → speeds_of (relief_at state row).0 ≡ each4 (λ i. plus_zero)) → RooftopStageThree c
+      → (verdict_at state row ≡ Ok tt → (relief_handed state row).supply ≡ false ∷ false ∷ [] → speeds_of (relief_at state row).0 ≡ each4 (λ i. plus_zero)) → RooftopStageThree c
   three c a e still =
       let told = answered c a in
       let t = freeze_3 (ap (λ (c : RooftopCommands). c.freeze.freeze_protection_stage) told.1 ∙ e) in
@@ -72,7 +68,7 @@ module _ (state : RooftopState) (row : RooftopRow) where
       → is_nan c.relief.averaged_pressure ≡ false → RooftopStageThree c
   stage_3_any c a e n =
       three c a e
-      (λ ok off. still_by_mean state.relief handed (relief_at state row).0 off (relief_answers ok) (ap (λ (c : RooftopCommands). is_nan c.relief.averaged_pressure) (answered c a).1 ∙ n))
+      (λ ok off. still_by_mean state.relief (relief_handed state row) (relief_at state row).0 off (relief_answers ok) (ap (λ (c : RooftopCommands). is_nan c.relief.averaged_pressure) (answered c a).1 ∙ n))
 
   -- and stage 2 commands freeze protection's outdoor damper 0 and its return damper 1
   pub stage_2_any : (c : RooftopCommands) → (rooftop_row state row).answer ≡ Ok c → c.freeze.freeze_protection_stage ≡ 2 → RooftopStageTwo c
@@ -87,7 +83,7 @@ module _ (k : Bool) (l : List RooftopRow) (row : RooftopRow) (c : RooftopCommand
   rooftop_stage_3 e =
       let s = state_alone k (wired k (accepted verdict_of l)) in
       three s row c (rw (side_by_side k l) at a) e
-      (λ ok off. still_from_fresh (wired k (accepted verdict_of l)).relief (handed s row) (relief_at s row).0 off (relief_answers s row ok))
+      (λ ok off. still_from_fresh (wired k (accepted verdict_of l)).relief (relief_handed s row) (relief_at s row).0 off (relief_answers s row ok))
 
   pub rooftop_stage_2 : c.freeze.freeze_protection_stage ≡ 2 → RooftopStageTwo c
   rooftop_stage_2 e = stage_2_any (state_after rooftop_returned (rooftop_start k) l) row c a e

@@ -44,17 +44,26 @@ freeze_accepted state row = let signals = freeze_signals state row in (freeze_co
 abbrev pub relief_accepted : ReliefState → ReliefRow → ReliefCommands × ReliefState
 relief_accepted state row = (relief_commands row (signals_at state row), relief_after state row)
 
--- ---- the joined row: the economizer with the stage of the last accepted row; freeze protection with what the economizer hands on; the relief fan group with
+-- ---- the joined row, and what each sequence is handed and gives: the economizer with the stage of the last accepted row; freeze protection with what the economizer hands on; the relief fan group with
 -- freeze protection's fan status
 module _ (state : RooftopState) (row : RooftopRow) where
+  abbrev pub economizer_handed : EconomizerRow
+  economizer_handed = economizer_row_of row state.stage
+
   abbrev pub economizer_at : EconomizerCommands × EconomizerState
-  economizer_at = economizer_accepted state.economizer (economizer_row_of row state.stage)
+  economizer_at = economizer_accepted state.economizer economizer_handed
+
+  abbrev pub freeze_handed : FreezeRow
+  freeze_handed = freeze_row_of row economizer_at.0
 
   abbrev pub freeze_at : FreezeCommands × FreezeState
-  freeze_at = freeze_accepted state.freeze (freeze_row_of row economizer_at.0)
+  freeze_at = freeze_accepted state.freeze freeze_handed
+
+  abbrev pub relief_handed : ReliefRow
+  relief_handed = relief_row_of row freeze_at.0.supply_fan_status
 
   abbrev pub relief_at : ReliefCommands × ReliefState
-  relief_at = relief_accepted state.relief (relief_row_of row freeze_at.0.supply_fan_status)
+  relief_at = relief_accepted state.relief relief_handed
 
   -- the commands, and the next state, which keeps the stage for the economizer of the next row
   abbrev pub rooftop_commands : RooftopCommands

@@ -11,8 +11,7 @@ use Rattle.relief_fan_group.specs.Step.{signals_at}
 use Rattle.rooftop.specs.declared.types.RooftopRow.{RooftopRow}
 use Rattle.rooftop.specs.declared.types.RooftopCommands.{RooftopCommands}
 use Rattle.rooftop.specs.declared.types.RooftopState.{RooftopState}
-use Rattle.rooftop.specs.Wiring.{economizer_row_of, relief_row_of}
-use Rattle.rooftop.specs.Step.{freeze_at, RooftopAnswer, rooftop_row}
+use Rattle.rooftop.specs.Step.{economizer_handed, relief_handed, RooftopAnswer, rooftop_row}
 use Rattle.rooftop.specs.Reading.{RooftopReading}
 
 -- the answer that a verdict and commands make
@@ -34,8 +33,8 @@ rooftop_told_from (Err r) economizer relief = NotTaken r
 -- of a joined row handed to a state: what its answer tells, with the signals that the answer's commands are worked from, and the state that it returns
 abbrev pub rooftop_told : RooftopState → RooftopRow → Told RooftopReading
 rooftop_told state row =
-    rooftop_told_from (rooftop_row state row).answer (economizer_signals state.economizer (economizer_row_of row state.stage))
-    (signals_at state.relief (relief_row_of row (freeze_at state row).0.supply_fan_status))
+    rooftop_told_from (rooftop_row state row).answer (economizer_signals state.economizer (economizer_handed state row))
+    (signals_at state.relief (relief_handed state row))
 
 abbrev pub rooftop_returned : RooftopState → RooftopRow → RooftopState
 rooftop_returned state row = (rooftop_row state row).state
