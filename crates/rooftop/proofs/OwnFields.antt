@@ -51,6 +51,10 @@ own_all [] a = none_accepted freeze.verdict_of
 own_all (x ∷ h) a =
     one_more_accepted freeze.verdict_of (freeze_fields x) (map freeze_fields h) (own_all h (accepted_before verdict_of x h a)) (own_accepted x h (accepted_here verdict_of x h a))
 
+-- so of the joined rows' own fields freeze protection leaves nothing out, and what is proved of its lists holds of this one
+pub own_fields_taken : (l : List RooftopRow) → accepted freeze.verdict_of (map freeze_fields (accepted verdict_of l)) ≡ map freeze_fields (accepted verdict_of l)
+own_fields_taken l = accepted_whole freeze.verdict_of (map freeze_fields (accepted verdict_of l)) (own_all (accepted verdict_of l) (accepted_all verdict_of l))
+
 module _ (k : Bool) where
   -- whatever is handed on, the signals are the same, and so are the blocks after the row
   module _ (s : FreezeState) (x : RooftopRow) (h : Past) where
