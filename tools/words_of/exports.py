@@ -8,8 +8,8 @@ LIBRARIES = {
     'woldgrater': ['freeze', 'econ', 'relief', 'joined'],
     'woldgrater_service': ['freeze', 'econ', 'relief', 'play', 'chunks'],
 }
-# the modules whose exports have a crate, and in the archive an object, of their own: in one object with others the functions that both call
-# are calls there too, which copy whole states, and a row takes up to twice as long
+# the modules whose exports have a crate of their own, and in the archive an object: in one object with others, the functions that both
+# call are called there too, with copies of whole states, and each row takes up to twice as long
 APART = {'joined': 'woldgrater_rooftop_c'}
 FUNCTION = re.compile(r"((?://.*\n)+)(?:#\[.*\]\n)*pub fn (woldgrater_\w+)(<'a>)?\(([^)]*)\) -> (\w+)\n((?:    .*\n)+)\{", re.M)
 
