@@ -1,9 +1,9 @@
 /* Woldgrater for firmware on x86-64 (System V calls): freeze protection, relief fan group and economizer of air handlers.
  *
- * A call a row for each sequence: link target/staticlib/libwoldgrater.a, which `tools/build woldgrater` writes. Signals for a display,
- * the alarms that a relief state remembers, the line of a row for a row file, and whole row files: link libwoldgrater_service.a beside
- * it (`tools/build woldgrater_service`). Every function stands in a section of its own, so with -Wl,--gc-sections a program has only
- * what it calls. docs/FIRMWARE.md leads from a struct of samples to a linked program.
+ * A call a row for each sequence, and for all three joined: link target/staticlib/libwoldgrater.a, which `tools/build woldgrater`
+ * writes. Signals for a display, the alarms that a relief state remembers, the line of a row for a row file, and whole row files: link
+ * libwoldgrater_service.a beside it (`tools/build woldgrater_service`). Every function stands in a section of its own, so with
+ * -Wl,--gc-sections a program has only what it calls. docs/FIRMWARE.md leads from a struct of samples to a linked program.
  *
  * The functions are proved: for all words, all doubles and all bytes they do exactly what is said here, end, and touch no memory but
  * what they are lent. They keep nothing between calls, take no memory of their own but the stack, and call nothing but memcpy, memmove
@@ -50,6 +50,7 @@ extern "C" {
 #define WOLDGRATER_STACK_FREEZE 2560
 #define WOLDGRATER_STACK_ECON 512
 #define WOLDGRATER_STACK_RELIEF 7168
+#define WOLDGRATER_STACK_ROOFTOP 5120
 #define WOLDGRATER_STACK_LINE 512
 #define WOLDGRATER_STACK_PLAY 20480
 #define WOLDGRATER_STACK_FEED 14336
@@ -466,8 +467,8 @@ struct woldgrater_alarm_given woldgrater_relief_alarm(struct woldgrater_relief_s
  * row's outdoor minimum and outdoor and return commands of the economizer; the relief fan group this row's fan status that freeze
  * protection commands, as both its supply flags. The rest stands in the row. The commands of an accepted row are those of all three.
  *
- * A refused row moves none of the three on. The time falls where it is below the last accepted time of any of them. Tried last is that
- * the numbers which the economizer hands on are finite, refused with WOLDGRATER_NOT_FINITE: from a start they always are.
+ * A refused row moves none of the three on. The time falls where it is below the last accepted time of any of them. What is handed on
+ * refuses nothing: the economizer's numbers are finite for all words of a state and all rows.
  *
  * The caller lends the two arrays of the relief window, as to woldgrater_relief_row: woldgrater_rooftop_start sets them to 0 and
  * woldgrater_rooftop_row changes them, in place. A word keeps_hour that is not 0 is woldgrater_freeze_start's. */

@@ -392,6 +392,8 @@ unsafe extern "C" {
     fn woldgrater_relief_signals(times: *const f64, integrals: *const f64, state: ReliefState, row: ReliefRow) -> ReliefShown;
     fn woldgrater_relief_alarm(state: ReliefState, fan: usize) -> AlarmGiven;
     fn woldgrater_relief_line(row: ReliefRow, out: *mut u8, out_len: usize) -> LineGiven;
+    fn woldgrater_rooftop_start(times: *mut f64, integrals: *mut f64, keeps_hour: u64) -> RooftopState;
+    fn woldgrater_rooftop_row(times: *mut f64, integrals: *mut f64, state: RooftopState, row: RooftopRow) -> RooftopGiven;
     fn woldgrater_play(rows: *const u8, rows_len: usize, out: *mut u8, out_len: usize) -> usize;
     fn woldgrater_start() -> State;
     fn woldgrater_feed(
@@ -522,6 +524,38 @@ impl Relief {
 
     pub fn line(row: ReliefRow, out: &mut [u8]) -> Result<&[u8], u64> {
         line(unsafe { woldgrater_relief_line(row, out.as_mut_ptr(), out.len()) }, out)
+    }
+}
+
+/// The joined row, a call a row, with the arrays of the relief window.
+pub struct Rooftop {
+    state: RooftopState,
+    times: [f64; WINDOW],
+    integrals: [f64; WINDOW],
+}
+
+impl Rooftop {
+    /// With freeze protection as the published Rust starts it.
+    pub fn start() -> Self {
+        Self::started(0)
+    }
+
+    /// So that stage 2 of freeze protection keeps to its hour.
+    pub fn start_keeping_hour() -> Self {
+        Self::started(1)
+    }
+
+    fn started(keeps_hour: u64) -> Self {
+        let (mut times, mut integrals) = ([0.0; WINDOW], [0.0; WINDOW]);
+        let state = unsafe { woldgrater_rooftop_start(times.as_mut_ptr(), integrals.as_mut_ptr(), keeps_hour) };
+        Rooftop { state, times, integrals }
+    }
+
+    /// The commands of all three, or the status of a refused row, which changes nothing.
+    pub fn row(&mut self, row: RooftopRow) -> Result<RooftopCommands, u64> {
+        let given = unsafe { woldgrater_rooftop_row(self.times.as_mut_ptr(), self.integrals.as_mut_ptr(), self.state, row) };
+        self.state = given.state;
+        accepted(given.status, given.commands)
     }
 }
 

@@ -1,4 +1,4 @@
-/* The alarms of a relief row, and those that a relief state remembers, held to the rows before. For calls.c. */
+/* The alarms of a row, and those that a relief state remembers, held to the rows before. For calls.c. */
 #include "timers.h"
 
 enum { FANS = 4 };
@@ -9,7 +9,7 @@ static int64_t last_alarms[FANS];
 /* The alarm of a fan in the row. */
 static int64_t row_alarm(size_t fan)
 {
-    return (int64_t)row[offsetof(struct woldgrater_relief_row, alarm) / sizeof(uint64_t) + fan];
+    return (int64_t)row[(size_t)(strchr(kind->row, 'a') - kind->row) + fan];
 }
 
 /* Whether a signed byte holds each alarm of the row. */
@@ -19,6 +19,12 @@ static int alarms_fit(void)
     while (kind->windowed && fan < FANS && row_alarm(fan) >= INT8_MIN && row_alarm(fan) <= INT8_MAX)
         fan++;
     return !kind->windowed || fan == FANS;
+}
+
+/* Whether the state is one that the call reads. */
+static int remembers(void)
+{
+    return kind->state == WORDS(struct woldgrater_relief_state);
 }
 
 /* What the call gives of a fan, for the state that the row gave. */

@@ -1,5 +1,5 @@
 /* The calls of each kind of rows, a row, a state, commands and signals, with what is left on the timers, being the 8-byte words that they
- * consist of. For calls.c. */
+ * consist of. Joined rows have no signals and no line. For calls.c. */
 #include <stddef.h>
 #include <stdint.h>
 #include <string.h>
@@ -8,10 +8,12 @@
 
 #define WORDS(type) (sizeof(type) / sizeof(uint64_t))
 
+static uint64_t below(uint64_t n);
+
 enum {
-    ROW = WORDS(struct woldgrater_freeze_row),
-    COMMANDS = WORDS(struct woldgrater_freeze_commands),
-    STATE = WORDS(struct woldgrater_relief_state),
+    ROW = WORDS(struct woldgrater_rooftop_row),
+    COMMANDS = WORDS(struct woldgrater_rooftop_commands),
+    STATE = WORDS(struct woldgrater_rooftop_state),
     SIGNALS = WORDS(struct woldgrater_relief_shown) - 1,
     LINE = WOLDGRATER_FREEZE_LINE
 };
@@ -25,9 +27,9 @@ static uint64_t status, given_state[STATE], commands[COMMANDS];
 static uint64_t shown_status, signals[SIGNALS];
 static uint8_t *line;
 
-/* ---- The calls of each kind, on words: a row, a state, what starts it, what a row gives and what its signals are, a line */
+/* ---- The calls of each kind, on words: a row, a state, what starts it, what a row gives; then what its signals are, and its line */
 
-#define CALLS(kind, started, given, shown)                                               \
+#define CALLS(kind, started, given)                                                      \
     static struct woldgrater_##kind##_row kind##_row(void)                               \
     {                                                                                    \
         struct woldgrater_##kind##_row made;                                             \
@@ -51,7 +53,9 @@ static uint8_t *line;
         status = made.status;                                                            \
         memcpy(given_state, &made.state, sizeof made.state);                             \
         memcpy(commands, &made.commands, sizeof made.commands);                          \
-    }                                                                                    \
+    }
+
+#define SHOWS(kind, shown)                                                               \
     static void kind##_show(void)                                                        \
     {                                                                                    \
         struct woldgrater_##kind##_shown made = shown;                                   \
@@ -63,11 +67,14 @@ static uint8_t *line;
         return woldgrater_##kind##_line(kind##_row(), line, room);                       \
     }
 
-CALLS(freeze, woldgrater_freeze_start(0), woldgrater_freeze_row(freeze_state(), freeze_row()),
-      woldgrater_freeze_signals(freeze_state(), freeze_row()))
-CALLS(econ, woldgrater_econ_start(), woldgrater_econ_row(econ_state(), econ_row()), woldgrater_econ_signals(econ_state(), econ_row()))
-CALLS(relief, woldgrater_relief_start(times, integrals), woldgrater_relief_row(times, integrals, relief_state(), relief_row()),
-      woldgrater_relief_signals(times, integrals, relief_state(), relief_row()))
+CALLS(freeze, woldgrater_freeze_start(0), woldgrater_freeze_row(freeze_state(), freeze_row()))
+SHOWS(freeze, woldgrater_freeze_signals(freeze_state(), freeze_row()))
+CALLS(econ, woldgrater_econ_start(), woldgrater_econ_row(econ_state(), econ_row()))
+SHOWS(econ, woldgrater_econ_signals(econ_state(), econ_row()))
+CALLS(relief, woldgrater_relief_start(times, integrals), woldgrater_relief_row(times, integrals, relief_state(), relief_row()))
+SHOWS(relief, woldgrater_relief_signals(times, integrals, relief_state(), relief_row()))
+CALLS(rooftop, woldgrater_rooftop_start(times, integrals, below(2)),
+      woldgrater_rooftop_row(times, integrals, rooftop_state(), rooftop_row()))
 
 /* Freeze protection whose stage 2 keeps to its hour; any word but 0 asks for it. */
 static void keep_hour_start(void)
@@ -89,11 +96,11 @@ static const struct kind {
     size_t same_signal;                    /* the word of the signals that is also a command, */
     size_t same_command;                   /* and the word of that command */
     size_t line;                           /* bytes */
-    int windowed;                          /* it has the arrays of a window */
+    int windowed;                          /* it has alarms, and the arrays of a window */
     void (*start)(void);
     void (*play)(void);
-    void (*show)(void);
-    struct woldgrater_line_given (*write)(size_t room);
+    void (*show)(void);                    /* null where it has no signals, */
+    struct woldgrater_line_given (*write)(size_t room); /* and where it has no line */
 } kinds[] = {
     { "freeze", "freeze", "tuuuuuTbbuuT", "nnfffnfffnn", WORDS(struct woldgrater_freeze_state),
       WORDS(struct woldgrater_freeze_shown) - 1, offsetof(struct woldgrater_freeze_signals, stage) / 8, 0, WOLDGRATER_FREEZE_LINE, 0,
@@ -107,6 +114,8 @@ static const struct kind {
     { "relief", "relief", "tbbPaaaabbbb", "fffffffff", WORDS(struct woldgrater_relief_state), WORDS(struct woldgrater_relief_shown) - 1,
       offsetof(struct woldgrater_relief_signals, control.average) / 8, 0, WOLDGRATER_RELIEF_LINE, 1, relief_start, relief_play,
       relief_show, relief_line },
+    { "rooftop", "rooftop", "tbuuvOmuuTbuuTPaaaabbbb", "fnffnnfffnfffnnfffffffff", WORDS(struct woldgrater_rooftop_state), 0, 0, 0, 0, 1,
+      rooftop_start, rooftop_play, NULL, NULL },
 };
 
 static const struct kind *kind;

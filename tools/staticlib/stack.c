@@ -25,6 +25,8 @@ static struct woldgrater_econ_state econ_state;
 static struct woldgrater_econ_row econ_row;
 static struct woldgrater_relief_state relief_state;
 static struct woldgrater_relief_row relief_row;
+static struct woldgrater_rooftop_state rooftop_state;
+static struct woldgrater_rooftop_row rooftop_row;
 static struct woldgrater_state file_state;
 static double times[WOLDGRATER_WINDOW], integrals[WOLDGRATER_WINDOW];
 static uint8_t line[WOLDGRATER_LINE], file[FILE_ROOM], out[WOLDGRATER_ROOM(FILE_ROOM)];
@@ -64,6 +66,10 @@ CALL(relief_signals, struct woldgrater_relief_shown,
      (const double *t, const double *i, struct woldgrater_relief_state state, struct woldgrater_relief_row row),
      (times, integrals, relief_state, relief_row))
 CALL(relief_alarm, struct woldgrater_alarm_given, (struct woldgrater_relief_state state, size_t fan), (relief_state, 3))
+CALL(rooftop_start, struct woldgrater_rooftop_state, (double *t, double *i, uint64_t keeps_hour), (times, integrals, 1))
+CALL(rooftop_row, struct woldgrater_rooftop_given,
+     (double *t, double *i, struct woldgrater_rooftop_state state, struct woldgrater_rooftop_row row),
+     (times, integrals, rooftop_state, rooftop_row))
 CALL(freeze_line, struct woldgrater_line_given, (struct woldgrater_freeze_row row, uint8_t *to, size_t len),
      (freeze_row, out, WOLDGRATER_FREEZE_LINE))
 CALL(econ_line, struct woldgrater_line_given, (struct woldgrater_econ_row row, uint8_t *to, size_t len),
@@ -79,11 +85,11 @@ CALL(finish, size_t, (uint8_t *to, size_t len, const uint8_t *kept, struct woldg
      (out, sizeof out, line, file_state))
 #pragma GCC diagnostic pop
 
-enum limit { FREEZE, ECON, RELIEF, LINE, PLAY, FEED, START_FINISH, LIMITS };
+enum limit { FREEZE, ECON, RELIEF, ROOFTOP, LINE, PLAY, FEED, START_FINISH, LIMITS };
 
 static const size_t limits[LIMITS] = {
-    WOLDGRATER_STACK_FREEZE, WOLDGRATER_STACK_ECON, WOLDGRATER_STACK_RELIEF,       WOLDGRATER_STACK_LINE,
-    WOLDGRATER_STACK_PLAY,   WOLDGRATER_STACK_FEED, WOLDGRATER_STACK_START_FINISH,
+    WOLDGRATER_STACK_FREEZE, WOLDGRATER_STACK_ECON, WOLDGRATER_STACK_RELIEF, WOLDGRATER_STACK_ROOFTOP,
+    WOLDGRATER_STACK_LINE,   WOLDGRATER_STACK_PLAY, WOLDGRATER_STACK_FEED,   WOLDGRATER_STACK_START_FINISH,
 };
 
 #define NAMED(name, limit) { #name, limit, run_##name, 0 }
@@ -95,9 +101,9 @@ static struct call {
 } calls[] = {
     NAMED(freeze_start, FREEZE), NAMED(freeze_row, FREEZE), NAMED(freeze_signals, FREEZE), NAMED(econ_start, ECON),
     NAMED(econ_row, ECON),       NAMED(econ_signals, ECON), NAMED(relief_start, RELIEF),   NAMED(relief_row, RELIEF),
-    NAMED(relief_signals, RELIEF), NAMED(relief_alarm, RELIEF), NAMED(freeze_line, LINE),  NAMED(econ_line, LINE),
-    NAMED(relief_line, LINE),    NAMED(play, PLAY),         NAMED(start, START_FINISH),    NAMED(feed, FEED),
-    NAMED(finish, START_FINISH),
+    NAMED(relief_signals, RELIEF), NAMED(relief_alarm, RELIEF), NAMED(rooftop_start, ROOFTOP), NAMED(rooftop_row, ROOFTOP),
+    NAMED(freeze_line, LINE),    NAMED(econ_line, LINE),    NAMED(relief_line, LINE),      NAMED(play, PLAY),
+    NAMED(start, START_FINISH),  NAMED(feed, FEED),         NAMED(finish, START_FINISH),
 };
 
 /* ---- The painted stack */
@@ -195,7 +201,33 @@ static void try_relief(size_t n)
     relief_state = given_relief_row.state;
 }
 
-/* Rows of the three sequences, on states that calls gave and on forged ones. */
+static void try_rooftop(size_t n)
+{
+    struct woldgrater_rooftop_row row = {
+        .time = time_of(n),
+        .supply_fan_status = n % 4 != 3,
+        .outdoor_airflow_normalized = 0.2,
+        .minimum_outdoor_airflow_setpoint_normalized = 0.3,
+        .supply_temperature_signal = 0.4,
+        .outdoor_air_temperature = n % 3 ? 295 : 293,
+        .operation_mode = 1,
+        .heating_coil = 0.3,
+        .minimum_outdoor_damper = 0.2,
+        .supply_air_temperature = n % 3 ? 273 : 276,
+        .software_reset = n % 5 == 4,
+        .supply_fan_speed = 0.6,
+        .cooling_coil = 0.4,
+        .mixed_air_temperature = 290,
+        .pressure = n % 3 ? 24 : 12,
+        .alarm = { 0, 0, (int64_t)n % 5, n % 11 == 10 ? 128 : 0 },
+        .proof = { n % 2, 0, 1, 0 },
+    };
+    rooftop_row = row;
+    measure(run_rooftop_row);
+    rooftop_state = given_rooftop_row.state;
+}
+
+/* Rows of the three sequences and joined ones, on states that calls gave and on forged ones. */
 static void try_rows(void)
 {
     measure(run_freeze_start);
@@ -213,6 +245,13 @@ static void try_rows(void)
         try_freeze(n);
         try_econ(n);
         try_relief(n);
+    }
+    measure(run_rooftop_start);
+    rooftop_state = given_rooftop_start;
+    for (size_t n = 0; n < 2 * ROWS; n++) {
+        if (n >= ROWS)
+            forge(&rooftop_state, sizeof rooftop_state, n);
+        try_rooftop(n);
     }
 }
 

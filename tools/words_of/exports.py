@@ -1,4 +1,4 @@
-"""The exports of the libraries for firmware: an archive is a crate of its own, and each export there calls the library's function with its clauses."""
+"""The exports of the libraries for firmware, each in a crate of exports: it calls the library's function with its clauses."""
 
 import os
 import re
@@ -8,6 +8,9 @@ LIBRARIES = {
     'woldgrater': ['freeze', 'econ', 'relief', 'joined'],
     'woldgrater_service': ['freeze', 'econ', 'relief', 'play', 'chunks'],
 }
+# the modules whose exports have a crate of their own, and in the archive an object: in one object with others, the functions that both
+# call are called there too, with copies of whole states, and each row takes up to twice as long
+APART = {'joined': 'woldgrater_rooftop_c'}
 FUNCTION = re.compile(r"((?://.*\n)+)(?:#\[.*\]\n)*pub fn (woldgrater_\w+)(<'a>)?\(([^)]*)\) -> (\w+)\n((?:    .*\n)+)\{", re.M)
 
 
@@ -51,5 +54,5 @@ def files(root, made):
             if text is None:
                 with open(os.path.join(root, path), encoding='utf-8') as source:
                     text = source.read()
-            found[f'crates/{library}_c/src/{module}.rt'] = exported(library, module, text)
+            found[f'crates/{APART.get(module, library + "_c")}/src/{module}.rt'] = exported(library, module, text)
     return found

@@ -27,7 +27,6 @@ pub struct RooftopGiven {
 
 // The state of a start, before any row: the arrays are set to 0.
 // Where the word is 0 freeze protection starts as the Rust's; with any other word its stage 2 keeps to its hour.
-#[tactic(auto, unfolding(block_words::specs::Flags::word_flag))]
 pub fn woldgrater_rooftop_start(
     times: &mut [f64; 512],
     integrals: &mut [f64; 512],

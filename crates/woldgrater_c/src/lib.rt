@@ -3,5 +3,4 @@
 
 pub mod econ;
 pub mod freeze;
-pub mod joined;
 pub mod relief;
