@@ -39,7 +39,7 @@ use Rattle.rooftop.specs.Told.{rooftop_told, rooftop_returned}
 use Rattle.rooftop.specs.StageSeen.{with_supply_air, three_cold_rows, stage_and_enable}
 use Rattle.rooftop.proofs.Demand3.{rooftop_demand_3, told_reads}
 
--- nothing of a stage is seen on the row itself: from any state, the economizer commands and keeps what it would at any other supply air temperature, and at any reset
+-- a stage that begins or ends on a row is unknown to the economizer there: from any state, the economizer commands and keeps what it would at any other supply air temperature, and at any reset
 pub unseen_on_the_row : (state : RooftopState) (row : RooftopRow) (temperature : Float) (reset : Bool)
     → economizer_at state (with_supply_air row temperature reset) ≡ economizer_at state row
 unfolding economizer_row_of

@@ -63,14 +63,14 @@ module _ (state : RooftopState) (row : RooftopRow) where
       let t = freeze_3 (ap (λ (c : RooftopCommands). c.freeze.freeze_protection_stage) told.1 ∙ e) in
       rw (← told.1) (record { outdoor_damper = t.outdoor_damper; return_damper = t.return_damper; fan_speeds = still told.0 (supply_off t.fan_off) })
 
-  -- from any state: stage 3 commands freeze protection's outdoor and return dampers 0, and all relief fans 0, unless the pressure mean is a NaN
+  -- from any state stage 3 shuts both of freeze protection's dampers and stops every relief fan, where the pressure mean is a number
   pub stage_3_any : (c : RooftopCommands) → (rooftop_row state row).answer ≡ Ok c → c.freeze.freeze_protection_stage ≡ 3
       → is_nan c.relief.averaged_pressure ≡ false → RooftopStageThree c
   stage_3_any c a e n =
       three c a e
       (λ ok off. still_by_mean state.relief (relief_handed state row) (relief_at state row).0 off (relief_answers ok) (ap (λ (c : RooftopCommands). is_nan c.relief.averaged_pressure) (answered c a).1 ∙ n))
 
-  -- and stage 2 commands freeze protection's outdoor damper 0 and its return damper 1
+  -- and stage 2 shuts its outdoor damper and opens its return damper full
   pub stage_2_any : (c : RooftopCommands) → (rooftop_row state row).answer ≡ Ok c → c.freeze.freeze_protection_stage ≡ 2 → RooftopStageTwo c
   stage_2_any c a e =
       let told = answered c a in

@@ -1,4 +1,4 @@
--- When the economizer sees a freeze stage: on the row after, and not on the row itself (change request 6). proofs/StageSeen.antt shows it.
+-- When the economizer learns of a freeze stage: on the row after the one that called it (change request 6). proofs/StageSeen.antt shows it.
 use Rattle.std.specs.Prelude.{ℕ, Bool, true, false, List, [], ◌∷◌, Float, pos, Option, None, Some}
 use Rattle.reals.specs.Constants.{plus_zero, whole}
 use Rattle.reals.specs.Four.{each4}

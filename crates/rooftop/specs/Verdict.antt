@@ -29,11 +29,11 @@ unfoldable pub handed_on_finite : EconomizerCommands → Bool
 handed_on_finite economizer =
     finite economizer.outdoor_damper_min_limit && finite economizer.outdoor_damper_command && finite economizer.return_damper_command
 
--- the time is below any of the last accepted times of the three sequences
+-- some sequence has accepted a later time
 unfoldable pub falls : (economizer freeze relief : Option Float) → Float → Bool
 falls economizer freeze relief time = seen_above economizer time || seen_above freeze time || seen_above relief time
 
--- refusals 1, 2 and 3 over the joined row, then 11 and 4, which are the relief fan group's; and then 1 again, a number that the economizer hands on not being finite.
+-- refusals 1, 2 and 3 over the joined row, then 11 and 4, which are the relief fan group's; and then 1 once more, by the numbers handed on.
 -- `full` is whether the relief window is full for the row's time
 unfoldable pub rooftop_verdict : Bool → RooftopRow → Bool → EconomizerCommands → Verdict
 rooftop_verdict falling row full economizer =

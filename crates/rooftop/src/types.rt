@@ -30,7 +30,7 @@ pub struct RooftopRow {
     pub proof: [bool; 4],
 }
 
-// The three states, and the freeze stage of the last accepted row, 0 before any.
+// The state of each sequence, and the stage that freeze protection had on the row accepted last; 0 before there is one.
 #[derive(Clone, Copy)]
 pub struct RooftopState {
     pub stage: i64,

@@ -38,7 +38,7 @@ pub fn handed_on_finite(economizer: EconomizerCommands) -> bool
         & is_finite(economizer.return_damper_command)
 }
 
-// The time is below any of the three last accepted times.
+// Some sequence has accepted a later time.
 #[tactic(auto, unfolding(crate::specs::Verdict::falls))]
 pub fn falls(economizer: Option<f64>, freeze: Option<f64>, relief: Option<f64>, time: f64) -> bool
     ensures { result ≡ falls economizer freeze relief time }
@@ -46,7 +46,7 @@ pub fn falls(economizer: Option<f64>, freeze: Option<f64>, relief: Option<f64>, 
     above(economizer, time) | above(freeze, time) | above(relief, time)
 }
 
-// Refusals 1, 2 and 3, 11 and 4; then 1 again where a number that the economizer hands on is not finite.
+// Refusals 1, 2 and 3, 11 and 4; then 1 once more, by the numbers handed on.
 #[tactic(auto, unfolding(crate::specs::Verdict::rooftop_verdict, refusals::specs::Refusals::verdict_or_refused))]
 pub fn rooftop_verdict(
     falling: bool,
