@@ -27,7 +27,7 @@ use Rattle.past.proofs.LevelReading.{hysteresis_of, hysteresis_new_lem, hysteres
 use Rattle.past.proofs.HoldReading.{true_false_hold_of, true_false_hold_new_lem, true_false_hold_output_lem, true_false_hold_update_lem}
 use Rattle.past.proofs.DelayReading.{true_delay_of, true_delay_new_lem, true_delay_output_lem, true_delay_update_lem}
 use Rattle.past.proofs.Whole.{read_newest, read_at_lem}
-use Rattle.past.proofs.Sequence.{SequenceReads, in_order_lem, accepted_in_order, sequence_reads}
+use Rattle.past.proofs.Sequence.{SequenceReads, sequence_reads}
 use Rattle.economizer_controller.specs.declared.types.EconomizerRow.{EconomizerRow}
 use Rattle.economizer_controller.specs.declared.types.EconomizerState.{EconomizerState}
 use Rattle.economizer_controller.specs.declared.types.EnableSignals.{EnableSignals}
@@ -186,7 +186,7 @@ time_finite x t = first (finite x.time) _ _ _ _ t
     first true b c d e t = tt
     first false b c d e t = t
 
-runs_read : SequenceReads verdict_of economizer_told economizer_returned economizer_fresh state_of economizer_reading
+runs_read : SequenceReads verdict_of economizer_told economizer_returned economizer_fresh state_of (λ s x. reading_in (economizer_signals s x)) economizer_reading
 unfolding economizer_verdict
 runs_read =
     sequence_reads time_of_row numbers_finite time_finite (λ s. s.last) (λ s x. reading_in (economizer_signals s x)) (λ s x. economizer_next s x (economizer_signals s x))
@@ -207,9 +207,7 @@ verdict_reads x l = rw (last_reads l)
 -- enable and delays among the signals of an accepted row, after the rows l, refused ones too, are those read off the accepted rows
 pub signals_read : (x : EconomizerRow) (l : List EconomizerRow) → verdict_of (accepted verdict_of l) x ≡ Ok tt
     → reading_in (economizer_signals (state_after economizer_returned economizer_fresh l) x) ≡ economizer_reading (x ∷ accepted verdict_of l)
-signals_read x l e =
-    let h = accepted verdict_of l in
-    rw (runs_read.states l) (reads x h (in_order_lem time_of_row numbers_finite time_finite x h (accepted_in_order time_of_row numbers_finite time_finite l) e))
+signals_read = runs_read.reads
 
 -- and at every place of it: place i tells the refusal that fits row i, or what is read off the accepted ones of rows 0 to i
 pub economizer_demand_3_at : (other : Told EconomizerReading) (rows : List EconomizerRow) (i : ℕ) → i < length rows

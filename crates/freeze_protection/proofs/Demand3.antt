@@ -14,7 +14,7 @@ use Rattle.past.specs.Stepped.{in_order}
 use Rattle.logical.specs.Run.{run}
 use Rattle.past.specs.Whole.{Told, told_by, next_by, state_after, accepted, read_all}
 use Rattle.past.proofs.Whole.{read_newest, read_at_lem}
-use Rattle.past.proofs.Sequence.{SequenceReads, in_order_lem, accepted_in_order, sequence_reads}
+use Rattle.past.proofs.Sequence.{SequenceReads, sequence_reads}
 use Rattle.freeze_protection.specs.declared.types.FreezeRow.{FreezeRow}
 use Rattle.freeze_protection.specs.declared.types.FreezeState.{FreezeState}
 use Rattle.freeze_protection.specs.Verdict.{numbers_finite, freeze_verdict}
@@ -67,7 +67,7 @@ time_finite x t = first (finite x.time) _ _ _ _ _ _ _ _ _ t
     first false b c d e f g h i j t = t
 
 module _ (k : Bool) where
-  stage_runs : SequenceReads verdict_of freeze_told freeze_returned (freeze_start k) (state_of k) (stage_from k)
+  stage_runs : SequenceReads verdict_of freeze_told freeze_returned (freeze_start k) (state_of k) (λ s x. (freeze_signals s x).stage) (stage_from k)
   unfolding freeze_verdict
   stage_runs =
       sequence_reads time_of_row numbers_finite time_finite (λ s. s.last) (λ s x. (freeze_signals s x).stage) (λ s x. freeze_next s x (freeze_signals s x))
@@ -88,9 +88,7 @@ verdict_reads k x l = rw (last_reads k l)
 -- the stage among the signals of an accepted row, after the rows l, refused ones too, is the one read off the accepted rows
 pub stage_reads : (keeps_hour : Bool) (x : FreezeRow) (l : List FreezeRow) → verdict_of (accepted verdict_of l) x ≡ Ok tt
     → (freeze_signals (state_after freeze_returned (freeze_start keeps_hour) l) x).stage ≡ stage_from keeps_hour (x ∷ accepted verdict_of l)
-stage_reads k x l e =
-    let h = accepted verdict_of l in
-    rw ((stage_runs k).states l) (reads k x h (in_order_lem time_of_row numbers_finite time_finite x h (accepted_in_order time_of_row numbers_finite time_finite l) e))
+stage_reads k = (stage_runs k).reads
 
 -- from the start of the Rust
 pub freeze_demand_3 : (rows : List FreezeRow) → run freeze_told freeze_returned freeze_fresh rows ≡ read_all verdict_of stage [] rows

@@ -1,8 +1,8 @@
 -- What each stage commands, for every state and row. Assumes nothing.
 use Prim.Native.Nat.{ℕ, ◌≤◌}
 use native.Mathlib.Omega.{arith}
-use mathlib.Core.Path.{◌≡◌, refl}
-use mathlib.Core.Bool.{Bool, true, false, ◌&&◌, ◌||◌, cond}
+use mathlib.Core.Path.{◌≡◌, refl, ap}
+use mathlib.Core.Bool.{Bool, true, false, not, ◌&&◌, ◌||◌, cond}
 use lib.Dec.{eqb}
 use Rattle.reals.specs.Switch.{switch}
 use Rattle.freeze_protection.specs.declared.types.FreezeRow.{FreezeRow}
@@ -91,6 +91,12 @@ module _ (state : FreezeState) (row : FreezeRow) where
 
   pub stage_3 : (freeze_commands row (freeze_signals state row)).freeze_protection_stage ≡ 3 → StageThree (freeze_commands row (freeze_signals state row))
   stage_3 e = three_commands row (freeze_signals state row) (latch_3 e)
+
+  -- the fan that is commanded: the row's own, but at stage 3
+  pub fan_by_stage : (freeze_commands row (freeze_signals state row)).supply_fan_status
+      ≡ row.supply_fan_status && not (eqb (freeze_commands row (freeze_signals state row)).freeze_protection_stage 3)
+  unfolding freeze_commands freeze_signals stage_number
+  fan_by_stage = ap (λ b. row.supply_fan_status && not b) (three_exactly _ _ _)
 
   pub stage_2 : (freeze_commands row (freeze_signals state row)).freeze_protection_stage ≡ 2 → StageTwo (freeze_commands row (freeze_signals state row))
   stage_2 e = two_commands row (freeze_signals state row) (latch_2 e).0 (latch_2 e).1

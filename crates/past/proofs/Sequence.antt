@@ -25,11 +25,13 @@ next_where_accepted : {S : Type 0} (v : Verdict) (a b old : S) → (v ≡ Ok tt 
 next_where_accepted (Ok tt) a b old f = f refl
 next_where_accepted (Err r) a b old f = refl
 
--- what a run from a fresh state tells at every place of a list, and the state that it hands to the row after the rows l, the newest first
+-- what a run from a fresh state tells at every place of a list; the state that it hands to the row after the rows l, the newest first; and the value of that row, if
+-- it is accepted
 pub record SequenceReads {S R Y : Type 0} (verdict : List R → R → Verdict) (answer : S → R → Told Y) (next : S → R → S) (fresh : S) (state_of : List R → S)
-    (read : List R → Y) : Type 0 where
+    (value : S → R → Y) (read : List R → Y) : Type 0 where
   pub runs : (rows : List R) → run answer next fresh rows ≡ read_all verdict read [] rows
   pub states : (l : List R) → state_after next fresh l ≡ state_of (accepted verdict l)
+  pub reads : (x : R) (l : List R) → verdict (accepted verdict l) x ≡ Ok tt → value (state_after next fresh l) x ≡ read (x ∷ accepted verdict l)
 
 module _ {R : Type 0} (time : R → Float) (all_finite : R → Bool) (time_finite : (x : R) → T (all_finite x) → T (finite (time x))) where
   -- an accepted row keeps the times in order
@@ -69,8 +71,12 @@ module _ {R : Type 0} (time : R → Float) (all_finite : R → Bool) (time_finit
           rw (next_is (state_of h) x, verdict_is x h)
           (next_where_accepted (verdict_after time all_finite h x) (after (state_of h) x) (state_of (x ∷ h)) (state_of h) (λ e. moves x h (in_order_lem x h o e)))
 
-      pub sequence_reads : SequenceReads (verdict_after time all_finite) answer next fresh state_of read
+      states_lem : (l : List R) → state_after next fresh l ≡ state_of (accepted (verdict_after time all_finite) l)
+      states_lem l = rw fresh_is (state_is (verdict_after time all_finite) (in_order time) read answer next state_of tt in_order_lem answers moved l)
+
+      pub sequence_reads : SequenceReads (verdict_after time all_finite) answer next fresh state_of value read
       sequence_reads = record {
         runs = λ rows. rw fresh_is (run_reads (verdict_after time all_finite) (in_order time) read answer next state_of tt in_order_lem answers moved rows);
-        states = λ l. rw fresh_is (state_is (verdict_after time all_finite) (in_order time) read answer next state_of tt in_order_lem answers moved l);
+        states = states_lem;
+        reads = λ x l e. rw (states_lem l) (values x (accepted (verdict_after time all_finite) l) (in_order_lem x (accepted (verdict_after time all_finite) l) (accepted_in_order l) e));
       }

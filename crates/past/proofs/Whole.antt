@@ -1,5 +1,5 @@
 -- The theorem over whole lists, once for all sequences: where the state is a function of the accepted rows, a run from a fresh state gives at every place what
--- the list alone tells there. Assumes nothing.
+-- the list alone tells there. And pasts in which every row is accepted after those before it. Assumes nothing.
 use Rattle.std.specs.Prelude.{Ok, Err}
 use Prim.Native.Nat.{ℕ, zero, suc, ◌<◌}
 use native.Mathlib.Nat.{not-suc-le-zero, le_of_suc-le-suc}
@@ -62,6 +62,11 @@ module _ {R : Type 0} (verdict : List R → R → Verdict) where
   unfolding accepted
   accepted_whole [] a = refl
   accepted_whole (x ∷ h) a = rw (accepted_whole h (accepted_before x h a), accepted_here x h a) refl
+
+  -- one more row that is accepted after such a past
+  pub whole_more : (x : R) (h : List R) → accepted verdict h ≡ h → verdict h x ≡ Ok tt → accepted verdict (x ∷ h) ≡ x ∷ h
+  unfolding accepted
+  whole_more x h w e = rw (w, e) refl
 
   pub accepted_all : (l : List R) → T (all_accepted (accepted verdict l))
   accepted_all = good_accepted verdict all_accepted none_accepted one_more_accepted

@@ -44,7 +44,6 @@ impl Refusal {
 }
 
 // The first refusal that fits a row at a time: `finite` says that all its numbers are finite, `falling` that the time is below a last accepted one.
-#[tactic(auto, unfolding(crate::specs::Refusals::judge_by))]
 pub fn judge_by(finite: bool, time: f64, falling: bool) -> Verdict
     ensures { result ≡ judge_by finite time falling }
 {

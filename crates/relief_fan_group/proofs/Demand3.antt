@@ -6,7 +6,6 @@ use mathlib.Core.Path.{◌≡◌, refl, ap, ◌∙◌}
 use mathlib.Core.Bool.{Bool}
 use mathlib.Core.List.{List, [], ◌∷◌, reverse}
 use lib.Dec.{T}
-use lib.IntN.{ℤ}
 use lib.ListN.{length, get_or, take}
 use lib.Ieee.Fits.{and_l}
 use lib.Ieee.Scale.{finite}
@@ -27,7 +26,7 @@ use Rattle.relief_fan_group.specs.Verdict.{numbers_finite, relief_verdict}
 use Rattle.relief_fan_group.specs.Signals.{pressure_control, relief_signals}
 use Rattle.relief_fan_group.specs.Commands.{relief_commands}
 use Rattle.relief_fan_group.specs.Step.{relief_fresh, relief_row, signals_at, step_by}
-use Rattle.relief_fan_group.specs.Reading.{Past, time_of_row, pressure_of_row, ReliefReading, relief_reading, verdict_of}
+use Rattle.relief_fan_group.specs.Reading.{Past, time_of_row, pressure_of_row, alarm_of_row, ReliefReading, relief_reading, verdict_of}
 use Rattle.relief_fan_group.specs.Blocks.{blocks_of, signals_of}
 use Rattle.relief_fan_group.specs.Told.{pulses_in, pulses_told, relief_told, relief_returned}
 use Rattle.relief_fan_group.specs.Left.{timers_of, timers_told, timers_read}
@@ -39,36 +38,36 @@ pub time_finite : (x : ReliefRow) → T (numbers_finite x) → T (finite x.time)
 unfolding numbers_finite
 time_finite x t = and_l (finite x.time) (finite x.pressure) t
 
-abbrev pub alarm_of_row : ReliefRow → List ℤ
-alarm_of_row x = x.alarm
+abbrev pub windowed_row : windowed.WindowedRow ReliefRow
+windowed_row = record { time = time_of_row; value = pressure_of_row; alarm = alarm_of_row; all_finite = numbers_finite; time_finite = time_finite }
 
 abbrev pub good : Past → Bool
-good = windowed.good time_of_row pressure_of_row alarm_of_row numbers_finite time_finite
+good = windowed.good windowed_row
 
 pub good_order : (h : Past) → T (good h) → T (in_order time_of_row h)
-good_order = windowed.good_order time_of_row pressure_of_row alarm_of_row numbers_finite time_finite
+good_order = windowed.good_order windowed_row
 
 -- the verdict on the state of a past is that of the list
 verdict_is : (x : ReliefRow) (h : Past) → T (good h) → relief_verdict (blocks_of h) x (moving_average_is_full (moving_average_of time_of_row pressure_of_row h) x.time) ≡ verdict_of h x
 unfolding relief_verdict verdict_of
-verdict_is x h g = windowed.verdict_is time_of_row pressure_of_row alarm_of_row numbers_finite time_finite x h g (blocks_of h).last (last_reads h)
+verdict_is x h g = windowed.verdict_is windowed_row x h g (blocks_of h).last (last_reads h)
 
 -- an accepted row keeps all that: no refusal fits it
 module _ (x : ReliefRow) (h : Past) (e : verdict_of h x ≡ Ok tt) where
   pub accepted_judged : verdict_after time_of_row numbers_finite h x ≡ Ok tt
   unfolding verdict_of
-  accepted_judged = windowed.accepted_judged time_of_row pressure_of_row alarm_of_row numbers_finite time_finite x h e
+  accepted_judged = windowed.accepted_judged windowed_row x h e
 
   pub accepted_fits : T (alarms_fit x.alarm)
   unfolding verdict_of
-  accepted_fits = windowed.accepted_fits time_of_row pressure_of_row alarm_of_row numbers_finite time_finite x h e
+  accepted_fits = windowed.accepted_fits windowed_row x h e
 
 good_more : (x : ReliefRow) (h : Past) → T (good h) → verdict_of h x ≡ Ok tt → T (good (x ∷ h))
 unfolding verdict_of
-good_more = windowed.good_more time_of_row pressure_of_row alarm_of_row numbers_finite time_finite
+good_more = windowed.good_more windowed_row
 
 good_none : T (good [])
-good_none = windowed.good_none time_of_row pressure_of_row alarm_of_row numbers_finite time_finite
+good_none = windowed.good_none windowed_row
 
 -- the accepted rows of every list are so
 pub accepted_good : (l : List ReliefRow) → T (good (whole.accepted verdict_of l))
@@ -76,7 +75,7 @@ accepted_good l = good_accepted verdict_of good good_none good_more l
 
 -- ---- the answer and the returned state of a row after the past h
 -- the signals of an accepted row are the readings
-pub reads_here : (x : ReliefRow) (h : Past) → T (in_order time_of_row (x ∷ h)) → pulses_in (signals_of x h) ≡ relief_reading (x ∷ h)
+pub reads_here : (x : ReliefRow) (h : Past) → T (in_order time_of_row (x ∷ h)) → pulses_in (signals_of x h).control.average (signals_of x h) ≡ relief_reading (x ∷ h)
 unfolding relief_reading
 reads_here x h o = rw (up_pulse_lem x h o, down_pulse_lem x h o) (unfold relief_signals pressure_control in refl)
 
@@ -121,7 +120,7 @@ verdict_reads x l = rw (state_after_lem l) (verdict_is x (whole.accepted verdict
 
 -- and the mean and both pulses among the signals of an accepted row
 pub signals_read : (x : ReliefRow) (l : List ReliefRow) → verdict_of (whole.accepted verdict_of l) x ≡ Ok tt
-    → pulses_in (signals_at (state_after relief_returned relief_fresh l) x) ≡ relief_reading (x ∷ whole.accepted verdict_of l)
+    → let signals = signals_at (state_after relief_returned relief_fresh l) x in pulses_in signals.control.average signals ≡ relief_reading (x ∷ whole.accepted verdict_of l)
 signals_read x l e =
     let h = whole.accepted verdict_of l in
     rw (state_after_lem l, signals_are x h) (reads_here x h (good_order (x ∷ h) (good_more x h (accepted_good l) e)))

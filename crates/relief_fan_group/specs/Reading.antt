@@ -23,6 +23,9 @@ time_of_row row = row.time
 abbrev pub pressure_of_row : ReliefRow → Float
 pressure_of_row row = row.pressure
 
+abbrev pub alarm_of_row : ReliefRow → List ℤ
+alarm_of_row row = row.alarm
+
 -- the mean here, by its block's definition over the rows up to here; before row 0 there is none, and no reading asks for it
 unfoldable pub mean : Past → Float
 mean [] = plus_zero
@@ -64,4 +67,4 @@ module _ {R : Type 0} (time : R → Float) (alarm : R → List ℤ) (all_finite 
 
 -- and of the relief fan group
 unfoldable pub verdict_of : Past → ReliefRow → Verdict
-verdict_of = verdict_windowed time_of_row (λ x. x.alarm) numbers_finite
+verdict_of = verdict_windowed time_of_row alarm_of_row numbers_finite

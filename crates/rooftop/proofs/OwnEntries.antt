@@ -59,24 +59,46 @@ twelve true true true true true true true true true true true false t = absurd t
 twelve true true true true true true true true true true true true t = (refl, refl, refl, refl, refl, refl, refl, refl, refl, refl, refl, refl)
 
 -- each number of a row whose numbers are finite
-abbrev pub EachFinite : RooftopRow → Type 0
-EachFinite row =
-    (finite row.time ≡ true) × (finite row.outdoor_airflow_normalized ≡ true) × (finite row.minimum_outdoor_airflow_setpoint_normalized ≡ true)
-    × (finite row.supply_temperature_signal ≡ true) × (finite row.outdoor_air_temperature ≡ true) × (finite row.heating_coil ≡ true)
-    × (finite row.minimum_outdoor_damper ≡ true) × (finite row.supply_air_temperature ≡ true) × (finite row.supply_fan_speed ≡ true)
-    × (finite row.cooling_coil ≡ true) × (finite row.mixed_air_temperature ≡ true) × (finite row.pressure ≡ true)
+pub record EachFinite (row : RooftopRow) : Type 0 where
+  pub time : finite row.time ≡ true
+  pub outdoor_airflow_normalized : finite row.outdoor_airflow_normalized ≡ true
+  pub minimum_outdoor_airflow_setpoint_normalized : finite row.minimum_outdoor_airflow_setpoint_normalized ≡ true
+  pub supply_temperature_signal : finite row.supply_temperature_signal ≡ true
+  pub outdoor_air_temperature : finite row.outdoor_air_temperature ≡ true
+  pub heating_coil : finite row.heating_coil ≡ true
+  pub minimum_outdoor_damper : finite row.minimum_outdoor_damper ≡ true
+  pub supply_air_temperature : finite row.supply_air_temperature ≡ true
+  pub supply_fan_speed : finite row.supply_fan_speed ≡ true
+  pub cooling_coil : finite row.cooling_coil ≡ true
+  pub mixed_air_temperature : finite row.mixed_air_temperature ≡ true
+  pub pressure : finite row.pressure ≡ true
 
 pub each_finite : (row : RooftopRow) → T (numbers_finite row) → EachFinite row
 unfolding numbers_finite
 each_finite row t =
+    let each =
     twelve
     (finite row.time) (finite row.outdoor_airflow_normalized) (finite row.minimum_outdoor_airflow_setpoint_normalized) (finite row.supply_temperature_signal)
     (finite row.outdoor_air_temperature) (finite row.heating_coil) (finite row.minimum_outdoor_damper) (finite row.supply_air_temperature)
     (finite row.supply_fan_speed) (finite row.cooling_coil) (finite row.mixed_air_temperature) (finite row.pressure)
-    t
+    t in
+    record {
+      time = each.0;
+      outdoor_airflow_normalized = each.1;
+      minimum_outdoor_airflow_setpoint_normalized = each.2;
+      supply_temperature_signal = each.3;
+      outdoor_air_temperature = each.4;
+      heating_coil = each.5;
+      minimum_outdoor_damper = each.6;
+      supply_air_temperature = each.7;
+      supply_fan_speed = each.8;
+      cooling_coil = each.9;
+      mixed_air_temperature = each.10;
+      pressure = each.11;
+    }
 
 pub time_finite : (row : RooftopRow) → T (numbers_finite row) → T (finite row.time)
-time_finite row t = holds _ (each_finite row t).0
+time_finite row t = holds _ (each_finite row t).time
 
 none_of_three : (a b c : Bool) → (a || b || c) ≡ false → (a ≡ false) × (b ≡ false) × (c ≡ false)
 none_of_three true b c e = absurd (true≢false e)
@@ -115,7 +137,7 @@ module _ (state : RooftopState) (row : RooftopRow) (accepted : verdict_at state 
   -- ---- the economizer's own entry
   economizer_numbers : T (economizer.numbers_finite (economizer_handed state row))
   unfolding economizer.numbers_finite economizer_row_of
-  economizer_numbers = rw (numbers.0, numbers.1, numbers.2, numbers.3, numbers.4) tt
+  economizer_numbers = rw (numbers.time, numbers.outdoor_airflow_normalized, numbers.minimum_outdoor_airflow_setpoint_normalized, numbers.supply_temperature_signal, numbers.outdoor_air_temperature) tt
 
   pub economizer_accepts : economizer.economizer_verdict state.economizer (economizer_handed state row) ≡ Ok tt
   unfolding economizer.economizer_verdict judge economizer_row_of
@@ -131,16 +153,16 @@ module _ (state : RooftopState) (row : RooftopRow) (accepted : verdict_at state 
   unfolding freeze.numbers_finite freeze_row_of economizer_accepted
   freeze_numbers =
       rw (
-        numbers.0,
+        numbers.time,
         is_true _ (min_limit_finite state.economizer (economizer_handed state row)),
         is_true _ (outdoor_command_finite state.economizer (economizer_handed state row)),
-        numbers.5,
-        numbers.6,
+        numbers.heating_coil,
+        numbers.minimum_outdoor_damper,
         is_true _ (return_command_finite state.economizer (economizer_handed state row)),
-        numbers.7,
-        numbers.8,
-        numbers.9,
-        numbers.10,
+        numbers.supply_air_temperature,
+        numbers.supply_fan_speed,
+        numbers.cooling_coil,
+        numbers.mixed_air_temperature,
       )
       tt
 
@@ -155,7 +177,7 @@ module _ (state : RooftopState) (row : RooftopRow) (accepted : verdict_at state 
   -- ---- the relief fan group's
   relief_numbers : T (relief.numbers_finite (relief_handed state row))
   unfolding relief.numbers_finite relief_row_of
-  relief_numbers = rw (numbers.0, numbers.11) tt
+  relief_numbers = rw (numbers.time, numbers.pressure) tt
 
   relief_judged : judge (relief.numbers_finite (relief_handed state row)) row.time state.relief.blocks.last ≡ Ok tt
   unfolding judge

@@ -18,6 +18,7 @@ use Rattle.past.specs.Past.{some, every, since_with, since, rises, risen, latche
 use Rattle.past.specs.Runs.{passed, lapses, gaps}
 use Rattle.past.specs.Turns.{values, turns, changes, hold_here, hold}
 use Rattle.past.specs.Whole.{Taken, told_by, state_after, accepted, read_all}
+use Rattle.past.proofs.Whole.{accepted_all}
 use Rattle.economizer_controller.specs.Integers.{integers_equal}
 use Rattle.economizer_controller.specs.Reading as economizer
 use Rattle.freeze_protection.specs.declared.types.FreezeRow.{FreezeRow}
@@ -33,29 +34,30 @@ use Rattle.rooftop.specs.declared.types.RooftopRow.{RooftopRow}
 use Rattle.rooftop.specs.declared.types.RooftopState.{RooftopState}
 use Rattle.rooftop.specs.Wiring.{economizer_row_of, freeze_row_of}
 use Rattle.rooftop.specs.Verdict.{numbers_finite}
-use Rattle.rooftop.specs.Step.{rooftop_start, economizer_at}
-use Rattle.rooftop.specs.Reading.{Past, verdict_of, RooftopReading, economizer_in, wired, rooftop_reading}
+use Rattle.rooftop.specs.Step.{rooftop_start, economizer_handed, economizer_at}
+use Rattle.rooftop.specs.Reading.{Past, verdict_of, RooftopReading, freeze_fields, stage_of, economizer_rows, rooftop_reading}
 use Rattle.rooftop.specs.Told.{rooftop_told, rooftop_returned}
 use Rattle.rooftop.specs.StageSeen.{with_supply_air, three_cold_rows, stage_and_enable}
-use Rattle.rooftop.proofs.Demand3.{rooftop_demand_3, told_reads}
+use Rattle.rooftop.proofs.OwnFields.{own_stage}
+use Rattle.rooftop.proofs.Demand3.{rooftop_demand_3_from, side_by_side, told_reads}
 
--- a stage that begins or ends on a row is unknown to the economizer there: from any state, the economizer commands and keeps what it would at any other supply air temperature, and at any reset
+-- from any state: what the economizer commands and keeps does not hang on the row's own supply air temperature, nor on its reset
 pub unseen_on_the_row : (state : RooftopState) (row : RooftopRow) (temperature : Float) (reset : Bool)
     → economizer_at state (with_supply_air row temperature reset) ≡ economizer_at state row
 unfolding economizer_row_of
 unseen_on_the_row state row temperature reset = refl
 
 module _ (k : Bool) where
-  -- the stage in the economizer's row is the one that is read off the rows before
-  pub stage_handed : (x : RooftopRow) (h : Past)
-      → (wired k (x ∷ h)).economizer ≡ economizer_row_of x (pos (rooftop_reading k h).stage) ∷ (wired k h).economizer
-  unfolding wired rooftop_reading
-  stage_handed x h = refl
+  -- the economizer is handed the stage of the row before: over all lists of joined rows, refused ones too
+  pub stage_handed : (x : RooftopRow) (l : List RooftopRow)
+      → economizer_handed (state_after rooftop_returned (rooftop_start k) l) x ≡ economizer_row_of x (pos (rooftop_reading k (accepted verdict_of l)).stage)
+  unfolding rooftop_reading
+  stage_handed x l = rw (side_by_side k l, own_stage k (accepted verdict_of l) (accepted_all verdict_of l)) refl
 
-  -- on a row after one with a stage the economizer is not enabled
+  -- on a row after one with a stage it is not enabled
   disabled : (x : RooftopRow) (h : Past) → 1 ≤ (rooftop_reading k h).stage → (rooftop_reading k (x ∷ h)).economizer.enabled ≡ false
-  unfolding rooftop_reading economizer.economizer_reading economizer.is_enabled wired economizer_row_of integers_equal
-  disabled x h l = never (economizer.held (economizer_in k (wired k h) x ∷ (wired k h).economizer) && x.supply_fan_status) (stage_from k (wired k h).freeze) l
+  unfolding rooftop_reading economizer.economizer_reading economizer.is_enabled economizer_row_of integers_equal
+  disabled x h l = never (economizer.held (economizer_rows k (x ∷ h)) && x.supply_fan_status) (stage_of k h) l
     where
       never : (b : Bool) (stage : ℕ) → 1 ≤ stage → (b && eqb stage 0) ≡ false
       never true stage l = is_false (eqb stage 0) (λ t. let zero : stage ≡ 0 = eqb→eq stage 0 t in omega (arith, l, zero))
@@ -73,7 +75,7 @@ module _ (k : Bool) where
       go (Ok v) e = let same : rooftop_reading k (x ∷ h) ≡ y = cc in rw (← same) (disabled x h s)
       go (Err r) e = absurd (let z : ◌≡◌ {A = ℕ} 0 1 = cc in omega arith)
 
--- ---- no shorter list shows it: on row 0 the stage is 0, so on neither of two rows does the economizer see another
+-- ---- no shorter list shows it: on row 0 the stage is 0, so on neither of two rows is the economizer handed another. No timer has passed there, so nothing calls
 module _ (x : FreezeRow) where
   abbrev row_0 : freeze.Past
   row_0 = x ∷ []
@@ -116,15 +118,15 @@ module _ (x : FreezeRow) where
   no_stage k = rw (not_latched stage3_call freeze.reset_row not_calling, not_latched holding (end_of_hour_from k) not_holding, not_latched (stage1_call_by (end_of_hour_from k)) recovery (not_called k)) refl
 
 pub no_stage_on_row_0 : (k : Bool) (x : RooftopRow) → (rooftop_reading k (x ∷ [])).stage ≡ 0
-unfolding rooftop_reading wired
-no_stage_on_row_0 k x = no_stage _ k
+unfolding rooftop_reading
+no_stage_on_row_0 k x = no_stage (freeze_fields x) k
 
-read : map stage_and_enable (read_all verdict_of (rooftop_reading false) [] three_cold_rows) ≡ Some (0, true) ∷ Some (1, true) ∷ Some (1, false) ∷ []
+three_read : map stage_and_enable (read_all verdict_of (rooftop_reading false) [] three_cold_rows) ≡ Some (0, true) ∷ Some (1, true) ∷ Some (1, false) ∷ []
 unfolding read_all accepted verdict_of verdict_after after_judged verdict_or_refused alarms_fit all_of fits_byte judge numbers_finite seen_above is_sign_negative window_is_full from different_before different eq
-    rooftop_reading wired economizer_row_of freeze_row_of economizer.economizer_reading economizer.is_enabled economizer.held economizer.warm_outside integers_equal
+    rooftop_reading economizer_row_of freeze_row_of economizer.economizer_reading economizer.is_enabled economizer.held economizer.warm_outside integers_equal
     stage_by stage_number stage1_call_by recovery holding end_of_hour stage3_call cold warm hold values hold_here changes gaps turns passed latched rises since since_with some every lt le add sub round of_bits
-read = refl
+three_read = refl
 
 -- three rows show it
 pub three_rows : map stage_and_enable (run rooftop_told rooftop_returned (rooftop_start false) three_cold_rows) ≡ Some (0, true) ∷ Some (1, true) ∷ Some (1, false) ∷ []
-three_rows = rw (rooftop_demand_3 false three_cold_rows) read
+three_rows = rw (rooftop_demand_3_from false three_cold_rows) three_read

@@ -22,7 +22,8 @@ use Rattle.rooftop.specs.declared.types.RooftopState.{RooftopState}
 use Rattle.rooftop.specs.declared.types.RooftopCommands.{RooftopCommands}
 use Rattle.rooftop.specs.Wiring.{relief_row_of}
 use Rattle.rooftop.specs.Step.{rooftop_start, freeze_accepted, freeze_handed, relief_handed, freeze_at, relief_at, rooftop_commands, rooftop_next, rooftop_row, verdict_at}
-use Rattle.rooftop.specs.Reading.{verdict_of, wired, state_alone}
+use Rattle.rooftop.specs.Reading.{verdict_of}
+use Rattle.rooftop.specs.SideBySide.{wired, state_alone}
 use Rattle.rooftop.specs.Told.{rooftop_returned}
 use Rattle.rooftop.specs.Stages.{RooftopStageThree, RooftopStageTwo}
 use Rattle.rooftop.proofs.OwnEntries.{own_relief}

@@ -1,4 +1,4 @@
--- Words for the joined row on a window whose arrays are lent. No public operation is promised in these words.
+-- Words for the joined row on a window whose arrays are lent. The calls for firmware are promised in them, `rooftop_row` is not.
 use Rattle.std.specs.Prelude.{List, Float}
 use Rattle.refusals.specs.declared.step.Step.{Step}
 use Rattle.relief_fan_group.specs.Lent as relief

@@ -4,6 +4,7 @@ pub mod Verdict
 pub mod Step
 pub mod Lent
 pub mod Reading
+pub mod SideBySide
 pub mod Told
 pub mod Stages
 pub mod StageSeen

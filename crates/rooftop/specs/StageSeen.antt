@@ -1,43 +1,25 @@
 -- When the economizer learns of a freeze stage: on the row after the one that called it (change request 6). proofs/StageSeen.antt shows it.
 use Rattle.std.specs.Prelude.{ℕ, Bool, true, false, List, [], ◌∷◌, Float, pos, Option, None, Some}
-use Rattle.reals.specs.Constants.{plus_zero, whole}
+use Rattle.reals.specs.Constants.{plus_zero, one, whole}
 use Rattle.reals.specs.Four.{each4}
 use Rattle.past.specs.Whole.{Told, NotTaken, Taken}
 use Rattle.rooftop.specs.declared.types.RooftopRow.{RooftopRow}
 use Rattle.rooftop.specs.Reading.{RooftopReading}
 
--- the same row with another supply air temperature and another reset, by which alone, and by its times, a freeze stage comes and goes
+-- the same row with another supply air temperature and another reset
 abbrev pub with_supply_air : RooftopRow → Float → Bool → RooftopRow
-with_supply_air row temperature reset = record {
-  time = row.time;
-  supply_fan_status = row.supply_fan_status;
-  outdoor_airflow_normalized = row.outdoor_airflow_normalized;
-  minimum_outdoor_airflow_setpoint_normalized = row.minimum_outdoor_airflow_setpoint_normalized;
-  supply_temperature_signal = row.supply_temperature_signal;
-  outdoor_air_temperature = row.outdoor_air_temperature;
-  operation_mode = row.operation_mode;
-  heating_coil = row.heating_coil;
-  minimum_outdoor_damper = row.minimum_outdoor_damper;
-  supply_air_temperature = temperature;
-  software_reset = reset;
-  supply_fan_speed = row.supply_fan_speed;
-  cooling_coil = row.cooling_coil;
-  mixed_air_temperature = row.mixed_air_temperature;
-  pressure = row.pressure;
-  alarm = row.alarm;
-  proof = row.proof;
-}
+with_supply_air row temperature reset = record row { supply_air_temperature = temperature; software_reset = reset }
 
 -- ---- the shortest list that shows it
--- a row at t seconds: the supply air at 277 K calls for stage 1, and outdoors 300 K enable the economizer, the supply fan being on
+-- a row at t seconds: the supply air at 277 K calls for stage 1, and outdoors 295 K enable the economizer, the supply fan being on
 abbrev pub cold_row : ℕ → RooftopRow
 cold_row t = record {
   time = whole t;
   supply_fan_status = true;
   outdoor_airflow_normalized = plus_zero;
   minimum_outdoor_airflow_setpoint_normalized = plus_zero;
-  supply_temperature_signal = plus_zero;
-  outdoor_air_temperature = whole 300;
+  supply_temperature_signal = one;
+  outdoor_air_temperature = whole 295;
   operation_mode = pos 1;
   heating_coil = plus_zero;
   minimum_outdoor_damper = plus_zero;
@@ -45,7 +27,7 @@ cold_row t = record {
   software_reset = false;
   supply_fan_speed = plus_zero;
   cooling_coil = plus_zero;
-  mixed_air_temperature = whole 277;
+  mixed_air_temperature = plus_zero;
   pressure = plus_zero;
   alarm = each4 (λ i. pos 0);
   proof = each4 (λ i. false);

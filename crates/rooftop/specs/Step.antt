@@ -26,11 +26,11 @@ use Rattle.rooftop.specs.declared.types.RooftopCommands.{RooftopCommands}
 use Rattle.rooftop.specs.Wiring.{economizer_row_of, freeze_row_of, relief_row_of}
 use Rattle.rooftop.specs.Verdict.{falls, rooftop_verdict}
 
--- all three sequences as they start, freeze protection in either manner; no row before, whose stage 0 stands for
+-- all three sequences as they start, freeze protection in either manner; before the first row the stage is 0
 unfoldable pub rooftop_start : Bool → RooftopState
 rooftop_start keeps_hour = record { stage = pos 0; economizer = economizer_fresh; freeze = freeze_start keeps_hour; relief = relief_fresh }
 
--- the start of the published Rust
+-- the start with freeze protection as the published Rust starts it
 unfoldable pub rooftop_fresh : RooftopState
 rooftop_fresh = rooftop_start false
 

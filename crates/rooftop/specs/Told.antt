@@ -8,6 +8,7 @@ use Rattle.economizer_controller.specs.Step.{economizer_signals}
 use Rattle.economizer_controller.specs.Told.{reading_in}
 use Rattle.relief_fan_group.specs.declared.types.ReliefSignals.{ReliefSignals}
 use Rattle.relief_fan_group.specs.Step.{signals_at}
+use Rattle.relief_fan_group.specs.Told.{pulses_in}
 use Rattle.rooftop.specs.declared.types.RooftopRow.{RooftopRow}
 use Rattle.rooftop.specs.declared.types.RooftopCommands.{RooftopCommands}
 use Rattle.rooftop.specs.declared.types.RooftopState.{RooftopState}
@@ -22,12 +23,7 @@ answer_by (Err refusal) commands = Err refusal
 -- of an answer, the refusal, or stage and mean among its commands beside what is read in the signals of the other two
 abbrev pub rooftop_told_from : RooftopAnswer → EconomizerSignals → ReliefSignals → Told RooftopReading
 rooftop_told_from (Ok c) economizer relief =
-    Taken
-    (record {
-      stage = c.freeze.freeze_protection_stage;
-      economizer = reading_in economizer;
-      relief = record { mean = c.relief.averaged_pressure; up = relief.up.up_tim.passed; down = relief.down.dow_tim.passed };
-    })
+    Taken (record { stage = c.freeze.freeze_protection_stage; economizer = reading_in economizer; relief = pulses_in c.relief.averaged_pressure relief })
 rooftop_told_from (Err r) economizer relief = NotTaken r
 
 -- of a joined row handed to a state: what its answer tells, with the signals that the answer's commands are worked from, and the state that it returns

@@ -24,7 +24,7 @@ numbers_finite row =
     && finite row.mixed_air_temperature
     && finite row.pressure
 
--- the three numbers that the economizer hands on are finite; proofs/HandedOn.antt: they always are
+-- the three numbers that the economizer hands on are finite; proofs/OwnEntries.antt: they always are
 unfoldable pub handed_on_finite : EconomizerCommands → Bool
 handed_on_finite economizer =
     finite economizer.outdoor_damper_min_limit && finite economizer.outdoor_damper_command && finite economizer.return_damper_command

@@ -24,7 +24,7 @@ pub fn rooftop_start(keeps_hour: bool) -> RooftopState
     }
 }
 
-// The start of the published Rust.
+// The start with freeze protection as the published Rust starts it.
 #[tactic(auto, unfolding(crate::specs::Step::rooftop_fresh))]
 pub fn rooftop_fresh() -> RooftopState
     ensures { result ≡ rooftop_fresh }

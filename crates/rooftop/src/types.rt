@@ -25,7 +25,7 @@ pub struct RooftopRow {
     pub cooling_coil: f64,
     pub mixed_air_temperature: f64,
     pub pressure: f64,
-    // Numbers: a row may have any.
+    // Numbers: a row with one that a signed byte does not hold is refused.
     pub alarm: [i64; 4],
     pub proof: [bool; 4],
 }
