@@ -39,8 +39,8 @@ extern "C" {
 #define WOLDGRATER_NOT_FINITE 1          /* a number of the row is NaN or infinite */
 #define WOLDGRATER_NEGATIVE_TIME 2       /* the time has its sign bit set: -0.0 too */
 #define WOLDGRATER_FALLING_TIME 3        /* the time is below that of the last accepted row */
-#define WOLDGRATER_ALARM_OUT_OF_RANGE 11 /* relief: an alarm is below -128 or above 127; tried after 3 and before 4 */
-#define WOLDGRATER_WINDOW_FULL 4         /* relief: the window of 300 s holds 512 points */
+#define WOLDGRATER_ALARM_OUT_OF_RANGE 11 /* relief, joined: an alarm is below -128 or above 127; tried after 3 and before 4 */
+#define WOLDGRATER_WINDOW_FULL 4         /* relief, joined: the window of 300 s holds 512 points */
 #define WOLDGRATER_NO_ROOM 10            /* a line does not fit the output */
 
 /* The numbers of a relief window: each of its two arrays. */

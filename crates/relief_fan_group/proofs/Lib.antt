@@ -1,4 +1,4 @@
--- The fact over the constants; the pulse, the state as a function of the past, and the theorem over whole lists; the alarms, and what is remembered of them; the window's length; the
+-- The fact over the constants; the pulse, the state as a function of the past, what a sequence with this window has, and the theorem over whole lists; the alarms, and what is remembered of them; the window's length; the
 -- speeds with both supply fans off, over every list of rows from a fresh start, and from every state by its mean.
 pub mod Nearest
 pub mod Pulses
