@@ -122,7 +122,9 @@ module _ (state : RooftopState) (row : RooftopRow) (accepted : verdict_at state 
 
   judged_ok : judged_here ≡ Ok tt
   unfolding relief.after_judged
-  judged_ok = (neither_fits judged_here (not (alarms_fit row.alarm)) AlarmOutOfRange (neither_fits (verdict_or_refused judged_here (not (alarms_fit row.alarm)) AlarmOutOfRange) full WindowFull after).0).0
+  judged_ok =
+      let misfit = not (alarms_fit row.alarm) in
+      (neither_fits judged_here misfit AlarmOutOfRange (neither_fits (verdict_or_refused judged_here misfit AlarmOutOfRange) full WindowFull after).0).0
 
   pub tests : T (numbers_finite row) × (is_sign_negative row.time ≡ false) × (falling ≡ false)
   tests = judged (numbers_finite row) row.time falling judged_ok

@@ -115,7 +115,13 @@ module _ (x : FreezeRow) where
 
   no_stage : (k : Bool) → stage_from k row_0 ≡ 0
   unfolding stage_by
-  no_stage k = rw (not_latched stage3_call freeze.reset_row not_calling, not_latched holding (end_of_hour_from k) not_holding, not_latched (stage1_call_by (end_of_hour_from k)) recovery (not_called k)) refl
+  no_stage k =
+      rw (
+        not_latched stage3_call freeze.reset_row not_calling,
+        not_latched holding (end_of_hour_from k) not_holding,
+        not_latched (stage1_call_by (end_of_hour_from k)) recovery (not_called k),
+      )
+      refl
 
 pub no_stage_on_row_0 : (k : Bool) (x : RooftopRow) → (rooftop_reading k (x ∷ [])).stage ≡ 0
 unfolding rooftop_reading

@@ -69,7 +69,8 @@ module _ (state : RooftopState) (row : RooftopRow) where
       → is_nan c.relief.averaged_pressure ≡ false → RooftopStageThree c
   stage_3_any c a e n =
       three c a e
-      (λ ok off. still_by_mean state.relief (relief_handed state row) (relief_at state row).0 off (relief_answers ok) (ap (λ (c : RooftopCommands). is_nan c.relief.averaged_pressure) (answered c a).1 ∙ n))
+      (λ ok off. still_by_mean state.relief (relief_handed state row) (relief_at state row).0 off (relief_answers ok)
+      (ap (λ (c : RooftopCommands). is_nan c.relief.averaged_pressure) (answered c a).1 ∙ n))
 
   -- and stage 2 shuts its outdoor damper and opens its return damper full
   pub stage_2_any : (c : RooftopCommands) → (rooftop_row state row).answer ≡ Ok c → c.freeze.freeze_protection_stage ≡ 2 → RooftopStageTwo c
