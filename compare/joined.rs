@@ -1,5 +1,8 @@
-//! The joined row: the reference from the three published trace functions, and the firmware library played beside it.
+//! The joined row: the reference from the published trace functions, as compare/extract makes them (for the start that
+//! keeps the hour the model in the place of freeze protection's), and the firmware library played beside it.
 
+#[cfg(any(all(calls, events), test))]
+mod forbidden;
 #[cfg(calls)]
 mod library;
 #[cfg(calls)]

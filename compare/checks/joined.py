@@ -1,4 +1,5 @@
-"""The comparison of joined rows must find a wrong wire, and events that never occur."""
+"""The comparison of joined rows must find each fault that it can be given, pass without one, and tell the events that
+its lists have not (each is a failure in a full run, which is not made here)."""
 
 import os
 import subprocess
@@ -7,21 +8,8 @@ import comparing
 from checks.programs import refuses
 from checks.report import check
 
-WIRES = {
-    'stage': 'the economizer is handed the stage of the same row',
-    'late-stage': 'it is handed a stage one row too late',
-    'no-stage': 'it is handed no stage',
-    'dampers': 'the outdoor and the return command change places',
-    'minimum': 'the outdoor minimum and the outdoor command change places',
-    'fan': "the relief fan group is handed the row's own fan",
-    'second-flag': 'the second supply flag is off',
-    'start': 'freeze protection starts in the other manner',
-    'order': 'a full window is told before an alarm that does not fit',
-    'refused-state': 'a refused row changes the state',
-    'refused-window': 'a refused row changes the window',
-}
-
-MOST = {'order': 700}    # rows that the lists are cut down to, 3 for the others: a full window has 512
+# Rows at most that a list is cut down to, by the fault; for the others 4. A full window has 512.
+MOST = {'order': 700}
 
 SCRIPT = os.path.join(comparing.COMPARE, 'rooftop')
 
@@ -33,19 +21,25 @@ def played(*words):
 def check_joined():
     if not comparing.built('rooftop'):
         return
-    for wire, what in WIRES.items():
-        ended = played('--wrong-wire', wire)
-        told = ended.returncode == 1 and 'first difference' in ended.stdout
-        found = told and 1 <= ended.stdout.count('Row {') <= MOST.get(wire, 3)
-        check(f'joined rows show where {what}', '' if found else ended.stdout + ended.stderr)
-    ended = played('--wrong-wire', 'no-stage')
-    check('an economizer that is enabled on the row after one with a stage is found',
-          '' if 'enabled on the row after one with a stage' in ended.stdout else ended.stdout + ended.stderr)
+    check_faults()
     ended = played('12')
     passes = ended.returncode == 0 and ended.stdout.endswith('\n24 passed, 0 failed\n')
     check('joined rows are answered as by the wired trace functions', '' if passes else ended.stdout + ended.stderr)
     ended = played('1')
     check('events that one list of joined rows has not are told',
           '' if 'events that never occurred' in ended.stdout else ended.stdout + ended.stderr)
-    for words in ('0', 'x', '5 fan', '--wrong-wire', '--wrong-wire nothing', '5 --wrong-wire fan more'):
+    for words in ('0', 'x', '5 fan', '--fault', '--fault nothing', '5 --fault fan more', '--faults more'):
         refuses(f'rooftop {words}', [SCRIPT, *words.split()])
+
+
+def check_faults():
+    """Each fault that the program lists shows as a difference."""
+    listed = played('--faults')
+    faults = [line.split(': ', 1) for line in listed.stdout.splitlines()]
+    check('the faults of joined rows are listed',
+          '' if listed.returncode == 0 and faults else f'none: {listed.stdout}{listed.stderr}')
+    for fault, what in faults:
+        ended = played('--fault', fault)
+        told = ended.returncode == 1 and 'first difference' in ended.stdout
+        found = told and 1 <= ended.stdout.count('Row {') <= MOST.get(fault, 4)
+        check(f'joined rows show where {what}', '' if found else ended.stdout + ended.stderr)

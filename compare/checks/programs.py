@@ -25,7 +25,8 @@ def check_scenarios():
               '' if published and got == published else 'the answers differ')
     tests = subprocess.run([os.path.join(TARGET, 'reference_tests'), '--quiet'],
                            stdout=subprocess.PIPE, text=True)
-    check('R4, E4 and the row at which the economizer is told of a stage, tested on the Rust itself', '' if tests.returncode == 0 else tests.stdout)
+    check('R4, E4, the row at which the economizer is told of a stage, and what no joined row may have, tested in Rust',
+          '' if tests.returncode == 0 else tests.stdout)
 
 
 def check_edits():

@@ -1,8 +1,6 @@
 //! The joined row of the firmware library, a call a row, with all that is kept from row to row in sight.
 
 #[cfg(events)]
-use super::play::Played;
-#[cfg(events)]
 use super::row::Answer;
 use super::row::{Commands, Economizer, Freeze, Relief, Row};
 use crate::woldgrater as library;
@@ -115,22 +113,24 @@ pub struct Library {
 }
 
 #[cfg(events)]
-impl Played for Library {
-    fn start(keeps_hour: bool) -> Self {
+impl Library {
+    pub fn start(keeps_hour: bool) -> Self {
         let now = Rooftop::start(keeps_hour);
         Self { now, before: now }
     }
 
-    fn row(&mut self, row: &Row) -> Answer {
+    pub fn row(&mut self, row: &Row) -> Answer {
         self.before = self.now;
         self.now.row(sample(row)).map(|given| commands(&given))
     }
 
-    fn changed(&self) -> bool {
+    /// Whether the last row left anything of what is kept from row to row other than it was.
+    pub fn changed(&self) -> bool {
         !self.now.is_same(&self.before)
     }
 
-    fn damage(&mut self, window: bool) {
+    /// Changes a bit of the state, or of the window's arrays.
+    pub fn damage(&mut self, window: bool) {
         if window {
             let [.., last] = &mut self.now.integrals;
             *last = f64::from_bits(last.to_bits() ^ 1);

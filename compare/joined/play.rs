@@ -1,45 +1,36 @@
-//! Plays the reference and a program beside each other over lists of joined rows, in both starts.
+//! Plays the reference and the library beside each other over lists of joined rows, in both starts.
 
 use std::num::NonZero;
 use std::sync::Mutex;
 use std::sync::atomic::{AtomicU64, Ordering};
 use std::thread;
-use std::time::{Duration, Instant};
 
+use super::forbidden::forbidden;
 use super::library::Library;
 use super::plans;
-use super::reference::{Reference, WRONG, Wrong};
-use super::row::{Answer, Commands, NUMBERS, Row, difference, other_signs};
+use super::reference::{FAULTS, Fault, Reference};
+use super::row::{NUMBERS, Row, difference, other_signs};
 use super::tally::Tally;
 
 /// The seeds of a full run, in which each event must occur in either start.
 const SEEDS: u64 = 400;
 
-/// How long a list is cut down.
-const CUTTING: Duration = Duration::from_secs(5);
+/// How often a list is tried with some rows less.
+const TRIES: usize = 100;
 
 const STARTS: [(&str, bool); 2] = [("published", false), ("keep-hour", true)];
 
-/// What is played beside the reference.
-pub trait Played {
-    fn start(keeps_hour: bool) -> Self;
-    fn row(&mut self, row: &Row) -> Answer;
-    /// Whether the last row left anything of what is kept from row to row other than it was.
-    fn changed(&self) -> bool;
-    /// Changes a bit of the state, or of the window's arrays.
-    fn damage(&mut self, window: bool);
-}
-
 /// What a run over lists tells and whether all passed, or a message about the words.
 pub fn run(words: &[&str]) -> Result<(String, bool), String> {
-    let (seeds, wrong) = match words {
+    let (seeds, fault) = match words {
+        ["--faults"] => return Ok((faults(), true)),
         [] => (SEEDS, None),
-        ["--wrong-wire", name] => (SEEDS, Some(wire(name)?)),
+        ["--fault", name] => (SEEDS, Some(named(name)?)),
         [seeds] => (whole(seeds)?, None),
-        [seeds, "--wrong-wire", name] => (whole(seeds)?, Some(wire(name)?)),
+        [seeds, "--fault", name] => (whole(seeds)?, Some(named(name)?)),
         _ => return Err(format!("this command line has no meaning: {}", words.join(" "))),
     };
-    Ok(lists(seeds, wrong))
+    Ok(lists(seeds, fault))
 }
 
 fn whole(word: &str) -> Result<u64, String> {
@@ -49,10 +40,14 @@ fn whole(word: &str) -> Result<u64, String> {
     }
 }
 
-fn wire(word: &str) -> Result<Wrong, String> {
-    let found = WRONG.iter().find(|(name, _)| *name == word);
-    let names = WRONG.map(|(name, _)| name).join(", ");
-    found.map(|&(_, wrong)| wrong).ok_or(format!("no such wire: {word}; there are {names}"))
+/// Every fault with what it does, a line each.
+fn faults() -> String {
+    FAULTS.map(|(name, _, what)| format!("{name}: {what}\n")).concat()
+}
+
+fn named(word: &str) -> Result<Fault, String> {
+    let found = FAULTS.iter().find(|(name, ..)| *name == word);
+    found.map(|&(_, fault, _)| fault).ok_or(format!("no such fault: {word}; there are\n{}", faults().trim_end()))
 }
 
 #[derive(Default)]
@@ -67,33 +62,34 @@ struct Sum {
     first: Option<(u64, usize)>,
 }
 
-fn lists(seeds: u64, wrong: Option<Wrong>) -> (String, bool) {
+fn lists(seeds: u64, fault: Option<Fault>) -> (String, bool) {
     let sum = Mutex::new(Sum::default());
     let next = AtomicU64::new(0);
     let workers = thread::available_parallelism().map_or(2, NonZero::get);
     thread::scope(|scope| {
         for _ in 0..workers {
             scope.spawn(|| {
-                loop {
+                // A fault need not be found twice. Each seed that is taken is played: the first that shows it is always
+                // the same one.
+                while fault.is_none() || sum.lock().unwrap().failed == 0 {
                     let seed = next.fetch_add(1, Ordering::Relaxed);
-                    // A wrong wire need not be found twice.
-                    if seed >= seeds || wrong.is_some() && sum.lock().unwrap().failed > 0 {
+                    if seed >= seeds {
                         break;
                     }
-                    one(seed, wrong, &sum);
+                    one(seed, fault, &sum);
                 }
             });
         }
     });
-    told(sum.into_inner().unwrap(), seeds, wrong)
+    told(sum.into_inner().unwrap(), seeds, fault)
 }
 
 /// Plays the list of a seed in both starts.
-fn one(seed: u64, wrong: Option<Wrong>, sum: &Mutex<Sum>) {
+fn one(seed: u64, fault: Option<Fault>, sum: &Mutex<Sum>) {
     let rows = plans::list(seed);
     for (index, &(_, keeps_hour)) in STARTS.iter().enumerate() {
         let mut tally = Tally::default();
-        let found = play::<Library>(&rows, keeps_hour, wrong, Some(&mut tally));
+        let found = play(&rows, keeps_hour, fault, Some(&mut tally));
         let mut sum = sum.lock().unwrap();
         sum.signs += tally.signs;
         sum.rows += rows.len() as u64;
@@ -109,28 +105,26 @@ fn one(seed: u64, wrong: Option<Wrong>, sum: &Mutex<Sum>) {
     }
 }
 
-/// Plays a list: the first row that is not as it has to be, and what is wrong with it.
-fn play<P: Played>(
-    rows: &[Row],
-    keeps_hour: bool,
-    wrong: Option<Wrong>,
-    mut tally: Option<&mut Tally>,
-) -> Option<(usize, String)> {
-    let mut reference = Reference::start(keeps_hour, wrong);
-    let mut program = P::start(keeps_hour);
+/// Plays a list: the first row that is not as it has to be, and what is wrong with it. A fault is found only by what
+/// the library answers and keeps, not by what the reference's own answers break.
+fn play(rows: &[Row], keeps_hour: bool, fault: Option<Fault>, mut tally: Option<&mut Tally>) -> Option<(usize, String)> {
+    let mut reference = Reference::start(keeps_hour, fault);
+    let mut library = Library::start(keeps_hour);
     let mut stage = 0;
     for (index, row) in rows.iter().enumerate() {
         let before = tally.as_ref().map(|_| reference.before.clone());
         let expected = reference.row(row);
-        let given = program.row(row);
-        if given.is_err() && matches!(wrong, Some(Wrong::RefusedState | Wrong::RefusedWindow)) {
-            program.damage(wrong == Some(Wrong::RefusedWindow));
+        let given = library.row(row);
+        if given.is_err() && matches!(fault, Some(Fault::RefusedState | Fault::RefusedWindow)) {
+            library.damage(fault == Some(Fault::RefusedWindow));
         }
-        let wrong = difference(&expected, &given)
-            .or_else(|| (expected.is_err() && program.changed()).then(|| "a refused row changed the state".into()))
-            .or_else(|| forbidden(&reference, row, &expected, stage));
-        if let Some(wrong) = wrong {
-            return Some((index, wrong));
+        let mut found = difference(&expected, &given)
+            .or_else(|| (expected.is_err() && library.changed()).then(|| "a refused row changed the state".into()));
+        if found.is_none() && fault.is_none() {
+            found = forbidden(row, &expected, stage, reference.seen.enable.enabled).map(String::from);
+        }
+        if let Some(found) = found {
+            return Some((index, found));
         }
         if let (Some(tally), Some(before)) = (tally.as_mut(), before) {
             tally.signs += other_signs(&expected, &given) as u64;
@@ -146,35 +140,17 @@ fn play<P: Played>(
     None
 }
 
-/// What the reference's own answer has that no row may have: the stage of the last accepted row is given.
-fn forbidden(reference: &Reference, row: &Row, answer: &Answer, before: u64) -> Option<String> {
-    let Ok(Commands { freeze, relief, .. }) = answer else {
-        let handed_on = matches!(answer, Err(1)) && row.is_finite();
-        return handed_on.then(|| "the economizer hands on a number that is not finite".into());
-    };
-    let dampers = (freeze.outdoor_damper_command, freeze.return_damper_command);
-    let wrong = match freeze.freeze_protection_stage {
-        3 if dampers != (0.0, 0.0) => "a damper is not at 0 at stage 3",
-        3 if relief.fan_speed != [0.0; 4] => "a relief fan runs at stage 3",
-        2 if dampers != (0.0, 1.0) => "the dampers are not at 0 and 1 at stage 2",
-        _ if before != 0 && reference.seen.enable.enabled => "the economizer is enabled on the row after one with a stage",
-        _ => return None,
-    };
-    Some(wrong.into())
-}
-
-/// A list that is still answered otherwise, cut down to rows that matter, as far as that goes in some seconds.
+/// A list that is still answered otherwise, cut down to rows that matter, as far as that goes in so many tries.
 fn cut_down(rows: &[Row], differs: impl Fn(&[Row]) -> Option<usize>) -> Vec<Row> {
-    let end = Instant::now() + CUTTING;
-    let differs = |rows: &[Row]| if Instant::now() < end { differs(rows) } else { None };
     let mut rows = rows.to_vec();
     if let Some(last) = differs(&rows) {
         rows.truncate(last + 1);
     }
-    let mut size = rows.len() / 2;
+    let (mut size, mut tries) = (rows.len() / 2, 0);
     while size > 0 {
         let mut at = 0;
-        while at < rows.len() {
+        while at < rows.len() && tries < TRIES {
+            tries += 1;
             let mut fewer = rows.clone();
             fewer.drain(at..(at + size).min(rows.len()));
             match differs(&fewer) {
@@ -214,21 +190,27 @@ fn simpler(mut rows: Vec<Row>, differs: impl Fn(&[Row]) -> Option<usize>) -> Vec
     rows
 }
 
-fn told(sum: Sum, seeds: u64, wrong: Option<Wrong>) -> (String, bool) {
+/// The list of a seed, cut down, and what is wrong with its last row.
+fn first_difference(seed: u64, start: usize, fault: Option<Fault>) -> String {
+    let (name, keeps_hour) = STARTS[start];
+    let differs = |rows: &[Row]| play(rows, keeps_hour, fault, None).map(|(index, _)| index);
+    let rows = cut_down(&plans::list(seed), differs);
+    let what = play(&rows, keeps_hour, fault, None).map_or(String::new(), |(_, what)| what);
+    let mut out = format!("first difference: seed {seed}, start {name}: {what}, at the last of these rows\n");
+    for row in rows {
+        out += &format!("    {row:?}\n");
+    }
+    out
+}
+
+fn told(sum: Sum, seeds: u64, fault: Option<Fault>) -> (String, bool) {
     let (mut passed, mut failed) = (sum.passed, sum.failed);
     let mut out = String::new();
     if let Some((seed, start)) = sum.first {
-        let (name, keeps_hour) = STARTS[start];
-        let differs = |rows: &[Row]| play::<Library>(rows, keeps_hour, wrong, None).map(|(index, _)| index);
-        let rows = cut_down(&plans::list(seed), differs);
-        let what = play::<Library>(&rows, keeps_hour, wrong, None).map_or(String::new(), |(_, what)| what);
-        out += &format!("first difference: seed {seed}, start {name}: {what}, at the last of these rows\n");
-        for row in rows {
-            out += &format!("    {row:?}\n");
-        }
+        out += &first_difference(seed, start, fault);
     }
     out += &format!("{} joined rows in {seeds} lists, each in both starts; {} zeros of the other sign\n", sum.rows, sum.signs);
-    if wrong.is_none() {
+    if fault.is_none() {
         for ((name, _), tally) in STARTS.iter().zip(&sum.tallies) {
             let events = tally.events();
             let never: Vec<&str> = events.iter().filter(|(_, count)| *count == 0).map(|(event, _)| event.as_str()).collect();

@@ -1,5 +1,6 @@
-//! The joined row from the published trace functions: for each accepted row every trace is run over the list up to it,
-//! and its last row is the answer. Nothing is kept from row to row but the lists, and the stage that the last one
+//! The joined row from the published trace functions, as compare/extract makes them; for the start that keeps the hour
+//! the model stands in the place of freeze protection's. For each accepted row every trace is run over the list up to
+//! it, and its last row is the answer. Nothing is kept from row to row but the lists, and the stage that the last one
 //! ended with.
 
 use super::row::{Answer, Commands, Economizer, Row};
@@ -8,45 +9,35 @@ use crate::sequences::economizer_controller::econ;
 use crate::sequences::freeze_protection::freeze;
 use crate::sequences::relief_fan_group::relief;
 
-/// A wire that is wrong, or what else is, to see that the comparison finds it.
+/// What is made wrong, in a wire or beside it, to see that the comparison finds it: FAULTS says what each does.
 #[derive(Clone, Copy, Debug, PartialEq)]
-pub enum Wrong {
-    /// The economizer is handed the stage of this row.
+pub enum Fault {
     Stage,
-    /// It is handed the stage that was handed to it before: one row later than is right.
     LateStage,
-    /// It is handed no stage.
     NoStage,
-    /// Freeze protection is handed the return command for the outdoor one, and that for this.
     Dampers,
-    /// It is handed the minimum for the outdoor command, and that for this.
     Minimum,
-    /// The relief fan group is handed the row's own fan.
     Fan,
-    /// It is handed its first flag alone.
     SecondFlag,
-    /// Freeze protection starts in the other manner.
     Start,
-    /// A full window is told before an alarm that does not fit.
     Order,
-    /// The program's refused rows change a word of the state.
     RefusedState,
-    /// They change the last number of the window.
     RefusedWindow,
 }
 
-pub const WRONG: [(&str, Wrong); 11] = [
-    ("stage", Wrong::Stage),
-    ("late-stage", Wrong::LateStage),
-    ("no-stage", Wrong::NoStage),
-    ("dampers", Wrong::Dampers),
-    ("minimum", Wrong::Minimum),
-    ("fan", Wrong::Fan),
-    ("second-flag", Wrong::SecondFlag),
-    ("start", Wrong::Start),
-    ("order", Wrong::Order),
-    ("refused-state", Wrong::RefusedState),
-    ("refused-window", Wrong::RefusedWindow),
+/// Every fault by its name, with what it does.
+pub const FAULTS: [(&str, Fault, &str); 11] = [
+    ("stage", Fault::Stage, "the economizer is handed the stage of the same row"),
+    ("late-stage", Fault::LateStage, "the economizer is handed a stage one row later than is right"),
+    ("no-stage", Fault::NoStage, "the economizer is handed no stage"),
+    ("dampers", Fault::Dampers, "freeze protection's outdoor and return command change places"),
+    ("minimum", Fault::Minimum, "freeze protection's outdoor minimum and outdoor command change places"),
+    ("fan", Fault::Fan, "the relief fan group is handed the row's own fan"),
+    ("second-flag", Fault::SecondFlag, "the relief fan group's second supply flag is off"),
+    ("start", Fault::Start, "freeze protection starts in the other manner"),
+    ("order", Fault::Order, "a full window is told before an alarm that does not fit"),
+    ("refused-state", Fault::RefusedState, "a row that the library refuses changes a bit of its state"),
+    ("refused-window", Fault::RefusedWindow, "a row that the library refuses changes a bit of its window"),
 ];
 
 /// What the traces show of the last accepted row.
@@ -61,7 +52,7 @@ pub struct Seen {
 }
 
 pub struct Reference {
-    wrong: Option<Wrong>,
+    fault: Option<Fault>,
     #[cfg(events)]
     keeps_hour: bool,
     pub before: Before,
@@ -75,10 +66,10 @@ pub struct Reference {
 }
 
 impl Reference {
-    pub fn start(keeps_hour: bool, wrong: Option<Wrong>) -> Self {
-        let keeps_hour = keeps_hour != (wrong == Some(Wrong::Start));
+    pub fn start(keeps_hour: bool, fault: Option<Fault>) -> Self {
+        let keeps_hour = keeps_hour != (fault == Some(Fault::Start));
         Self {
-            wrong,
+            fault,
             #[cfg(events)]
             keeps_hour,
             before: Before::default(),
@@ -95,7 +86,7 @@ impl Reference {
     pub fn row(&mut self, row: &Row) -> Answer {
         let mut before = self.before.clone();
         let mut status = before.relief_status(row.time, row.is_finite(), &row.alarm);
-        if status == 11 && self.wrong == Some(Wrong::Order) && before.clone().relief_status(row.time, true, &[0; 4]) == 4 {
+        if status == 11 && self.fault == Some(Fault::Order) && before.clone().relief_status(row.time, true, &[0; 4]) == 4 {
             status = 4;
         }
         if status != 0 {
@@ -121,10 +112,10 @@ impl Reference {
 
     /// The stage of the last accepted row, 0 before any.
     fn stage_for(&mut self, row: &Row) -> i64 {
-        match self.wrong {
-            Some(Wrong::Stage) => self.stage_of(row),
-            Some(Wrong::LateStage) => self.late_stage,
-            Some(Wrong::NoStage) => 0,
+        match self.fault {
+            Some(Fault::Stage) => self.stage_of(row),
+            Some(Fault::LateStage) => self.late_stage,
+            Some(Fault::NoStage) => 0,
             _ => self.stage,
         }
     }
@@ -138,13 +129,13 @@ impl Reference {
     }
 
     fn handed_on(&self, right: Economizer) -> Economizer {
-        match self.wrong {
-            Some(Wrong::Dampers) => Economizer {
+        match self.fault {
+            Some(Fault::Dampers) => Economizer {
                 outdoor_damper_command: right.return_damper_command,
                 return_damper_command: right.outdoor_damper_command,
                 ..right
             },
-            Some(Wrong::Minimum) => Economizer {
+            Some(Fault::Minimum) => Economizer {
                 outdoor_damper_command: right.outdoor_damper_min_limit,
                 outdoor_damper_min_limit: right.outdoor_damper_command,
                 ..right
@@ -155,9 +146,9 @@ impl Reference {
 
     /// Freeze protection's fan status, as both flags.
     fn supply(&self, row: &Row, fan: bool) -> [bool; 2] {
-        match self.wrong {
-            Some(Wrong::Fan) => [row.supply_fan_status; 2],
-            Some(Wrong::SecondFlag) => [fan, false],
+        match self.fault {
+            Some(Fault::Fan) => [row.supply_fan_status; 2],
+            Some(Fault::SecondFlag) => [fan, false],
             _ => [fan; 2],
         }
     }
@@ -191,15 +182,15 @@ mod tests {
             supply_air_temperature: 277.0,
             ..Row::default()
         };
-        let played = |wrong| {
-            let mut reference = Reference::start(false, wrong);
+        let played = |fault| {
+            let mut reference = Reference::start(false, fault);
             [0.0, 300.0, 300.0].map(|time| {
                 let commands = reference.row(&Row { time, ..row }).unwrap();
                 (commands.freeze.freeze_protection_stage, commands.economizer.return_damper_command)
             })
         };
         assert_eq!(played(None), [(0, 0.0), (1, 0.0), (1, 1.0)]);
-        assert_eq!(played(Some(Wrong::Stage)), [(0, 0.0), (1, 1.0), (1, 1.0)]);
-        assert_eq!(played(Some(Wrong::LateStage)), [(0, 0.0), (1, 0.0), (1, 0.0)]);
+        assert_eq!(played(Some(Fault::Stage)), [(0, 0.0), (1, 1.0), (1, 1.0)]);
+        assert_eq!(played(Some(Fault::LateStage)), [(0, 0.0), (1, 0.0), (1, 0.0)]);
     }
 }
