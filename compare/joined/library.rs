@@ -71,6 +71,8 @@ struct Given {
     commands: library::RooftopCommands,
 }
 
+// The module of the examples declares the same calls with the words out of sight.
+#[allow(clashing_extern_declarations)]
 unsafe extern "C" {
     fn woldgrater_rooftop_start(times: *mut f64, integrals: *mut f64, keeps_hour: u64) -> State;
     fn woldgrater_rooftop_row(times: *mut f64, integrals: *mut f64, state: State, row: library::RooftopRow) -> Given;
