@@ -15,6 +15,7 @@ REFERENCE = os.path.join(TARGET, 'reference')
 GENERATE = os.path.join(TARGET, 'generate')
 CALLS = os.path.join(TARGET, 'calls')
 ROOFTOP = os.path.join(TARGET, 'rooftop')
+BOARD = os.path.join(TARGET, 'board')
 EVENTS = os.path.join(TARGET, 'events')
 
 sys.path.insert(0, os.path.join(ROOT, 'tools'))

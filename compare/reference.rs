@@ -70,6 +70,7 @@ mod sequences {
 
 /// The firmware library, as its users in Rust declare it.
 #[cfg(calls)]
+#[allow(clashing_extern_declarations)] // joined/library.rs declares some calls with the words in sight
 #[path = "../examples/rust/woldgrater.rs"]
 mod woldgrater;
 

@@ -1,9 +1,9 @@
 /* Woldgrater for firmware on x86-64 (System V calls): freeze protection, relief fan group and economizer of air handlers.
  *
- * A call a row for each sequence, and for all three joined: link target/staticlib/libwoldgrater.a, which `tools/build woldgrater`
- * writes. Signals for a display, the alarms that a relief state remembers, the line of a row for a row file, and whole row files: link
- * libwoldgrater_service.a beside it (`tools/build woldgrater_service`). Every function stands in a section of its own, so with
- * -Wl,--gc-sections a program has only what it calls. docs/FIRMWARE.md leads from a struct of samples to a linked program.
+ * A call a row for each sequence, and for all three joined; six of these on one board: link target/staticlib/libwoldgrater.a, which
+ * `tools/build woldgrater` writes. Signals for a display, the alarms that a relief state remembers, the line of a row for a row file, and
+ * whole row files: link libwoldgrater_service.a beside it (`tools/build woldgrater_service`). Every function stands in a section of its
+ * own, so with -Wl,--gc-sections a program has only what it calls. docs/FIRMWARE.md leads from a struct of samples to a linked program.
  *
  * The functions are proved: for all words, all doubles and all bytes they do exactly what is said here, end, and touch no memory but
  * what they are lent. They keep nothing between calls, take no memory of their own but the stack, and call nothing but memcpy, memmove
@@ -31,7 +31,7 @@ extern "C" {
 
 /* Major, minor: the minor grows with what is added, the major where a state or a struct is laid out anew. */
 #define WOLDGRATER_VERSION_MAJOR 5
-#define WOLDGRATER_VERSION_MINOR 1
+#define WOLDGRATER_VERSION_MINOR 2
 
 /* Statuses. 0: accepted. The others are refusals: a refused row hands the old state back (the same words, where a call gave them; of
  * any other words those of the state that they are read as), and its commands, signals and seconds left are all zero and mean nothing. */
@@ -42,15 +42,22 @@ extern "C" {
 #define WOLDGRATER_ALARM_OUT_OF_RANGE 11 /* relief, joined: an alarm is below -128 or above 127; tried after 3 and before 4 */
 #define WOLDGRATER_WINDOW_FULL 4         /* relief, joined: the window of 300 s holds 512 points */
 #define WOLDGRATER_NO_ROOM 10            /* a line does not fit the output */
+#define WOLDGRATER_NO_UNIT 12            /* board: a row is offered to a unit above 5 */
+#define WOLDGRATER_LINE_FULL 13          /* board: four rows wait for the unit already; tried after 12 */
 
 /* The numbers of a relief window: each of its two arrays. */
 #define WOLDGRATER_WINDOW 512
+
+/* The units of a board, from 0 on, and the places of each unit's waiting line. */
+#define WOLDGRATER_UNITS 6
+#define WOLDGRATER_PLACES 4
 
 /* What a call needs of the stack at most, in bytes, its arguments and what it gives not counted. A test measures it. */
 #define WOLDGRATER_STACK_FREEZE 2560
 #define WOLDGRATER_STACK_ECON 512
 #define WOLDGRATER_STACK_RELIEF 7168
 #define WOLDGRATER_STACK_ROOFTOP 5120
+#define WOLDGRATER_STACK_BOARD 6144
 #define WOLDGRATER_STACK_LINE 512
 #define WOLDGRATER_STACK_PLAY 20480
 #define WOLDGRATER_STACK_FEED 14336
@@ -398,6 +405,29 @@ struct woldgrater_rooftop_given {
     struct woldgrater_rooftop_commands commands;
 };
 
+/* The board. */
+
+/* A board: the unit asked first at the next tick, where any number above 5 is as 0; how many rows wait for each
+ * unit, where any number above 4 is as 4; the places of each unit's line, of which the first so many hold the rows
+ * that wait, the next to be served first; the units' states, and the arrays of their relief windows. */
+struct woldgrater_board {
+    size_t turn;
+    size_t counts[6];
+    struct woldgrater_rooftop_row rows[6][4];
+    struct woldgrater_rooftop_state units[6];
+    double times[6][512];
+    double integrals[6][512];
+};
+
+/* What a tick served: 1, the unit, and the status and the commands of its row as the unit's own call would give
+ * them. Where no row waited all is 0. */
+struct woldgrater_board_served {
+    uint64_t served;
+    size_t unit;
+    uint64_t status;
+    struct woldgrater_rooftop_commands commands;
+};
+
 /* The line of a row. */
 
 /* The status, and the number of bytes written. */
@@ -476,6 +506,30 @@ struct woldgrater_rooftop_state woldgrater_rooftop_start(double times[WOLDGRATER
                                                          uint64_t keeps_hour);
 struct woldgrater_rooftop_given woldgrater_rooftop_row(double times[WOLDGRATER_WINDOW], double integrals[WOLDGRATER_WINDOW],
                                                        struct woldgrater_rooftop_state state, struct woldgrater_rooftop_row row);
+
+/* The board: six air handlers, each a joined sequence with a waiting line of its own for at most four rows, of which each tick serves one.
+ *
+ * What is said here is proved of the board that the words stand for. That the start writes every word, and that an offer that is turned
+ * away and a tick with no row waiting leave every word as it was, is tested.
+ *
+ * woldgrater_board_start needs nothing of what stands in the board's memory before. No row waits then, unit 0 is asked first, and each
+ * unit has started by its word of keeps_hour, as by that of woldgrater_rooftop_start.
+ *
+ * woldgrater_board_offer gives 0, and the row waits behind the others of its unit; or it gives WOLDGRATER_NO_UNIT or WOLDGRATER_LINE_FULL,
+ * and the board is as it was. Nothing else of the row is looked at: a row that its unit refuses is refused when it is served. A row that
+ * was turned away with WOLDGRATER_LINE_FULL must be offered again before later rows of its unit: else these go first, and once
+ * one of them is accepted, the row's time is a falling one, which is refused with WOLDGRATER_FALLING_TIME when it is served.
+ *
+ * woldgrater_board_tick asks the units in turn, from the one named by turn on and round, and serves the first row of the first unit for
+ * which any waits: the row leaves its line, the unit answers it as woldgrater_rooftop_row would, and the unit numbered one above it, 0
+ * after 5, is asked first at the next tick. Units are never mixed: each gives for its rows, in their order, what it would give by itself,
+ * and with a row waiting for it is served at one of the next six ticks. With no row waiting, served is 0 and so is all else that is given,
+ * and the board is as it was.
+ *
+ * The board is some 66,000 bytes, changed where it stands. Any words are some board, read as said at the struct. */
+void woldgrater_board_start(struct woldgrater_board *board, const uint64_t keeps_hour[WOLDGRATER_UNITS]);
+uint64_t woldgrater_board_offer(struct woldgrater_board *board, size_t unit, struct woldgrater_rooftop_row row);
+struct woldgrater_board_served woldgrater_board_tick(struct woldgrater_board *board);
 
 /* ---- The line of a row, for a row file (docs/ROW_FILES.md). Gives status 0 and the line's bytes with its newline, which stand in the
  * first bytes of out; or the refusal, 1 before 10, and 0 bytes, with out as it was. A row's time is not looked at. */

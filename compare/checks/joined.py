@@ -1,5 +1,5 @@
 """The comparison of joined rows must find each fault that it can be given, pass without one, and tell the events that
-its lists have not (each is a failure in a full run, which is not made here)."""
+its lists have not; in a full run, which is made with the fault `uncounted`, each of these is a failure."""
 
 import os
 import subprocess
@@ -40,6 +40,9 @@ def check_faults():
           '' if listed.returncode == 0 and faults else f'none: {listed.stdout}{listed.stderr}')
     for fault, what in faults:
         ended = played('--fault', fault)
-        told = ended.returncode == 1 and 'first difference' in ended.stdout
-        found = told and 1 <= ended.stdout.count('Row {') <= MOST.get(fault, 4)
-        check(f'joined rows show where {what}', '' if found else ended.stdout + ended.stderr)
+        if fault == 'uncounted':
+            told = ended.stdout.count('events that never occurred')
+            found = told == 2 and ended.stdout.endswith(' passed, 2 failed\n')
+        else:
+            found = 'first difference' in ended.stdout and 1 <= ended.stdout.count('Row {') <= MOST.get(fault, 4)
+        check(f'joined rows show where {what}', '' if ended.returncode == 1 and found else ended.stdout + ended.stderr)

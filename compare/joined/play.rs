@@ -210,9 +210,13 @@ fn told(sum: Sum, seeds: u64, fault: Option<Fault>) -> (String, bool) {
         out += &first_difference(seed, start, fault);
     }
     out += &format!("{} joined rows in {seeds} lists, each in both starts; {} zeros of the other sign\n", sum.rows, sum.signs);
-    if fault.is_none() {
+    let uncounted = fault == Some(Fault::Uncounted);
+    if fault.is_none() || uncounted {
         for ((name, _), tally) in STARTS.iter().zip(&sum.tallies) {
-            let events = tally.events();
+            let mut events = tally.events();
+            if uncounted {
+                events[0].1 = 0;
+            }
             let never: Vec<&str> = events.iter().filter(|(_, count)| *count == 0).map(|(event, _)| event.as_str()).collect();
             out += &format!("  {name}\n{}\n", shown(&events));
             if !never.is_empty() {

@@ -23,10 +23,11 @@ pub enum Fault {
     Order,
     RefusedState,
     RefusedWindow,
+    Uncounted,
 }
 
 /// Every fault by its name, with what it does.
-pub const FAULTS: [(&str, Fault, &str); 11] = [
+pub const FAULTS: [(&str, Fault, &str); 12] = [
     ("stage", Fault::Stage, "the economizer is handed the stage of the same row"),
     ("late-stage", Fault::LateStage, "the economizer is handed a stage one row later than is right"),
     ("no-stage", Fault::NoStage, "the economizer is handed no stage"),
@@ -38,6 +39,7 @@ pub const FAULTS: [(&str, Fault, &str); 11] = [
     ("order", Fault::Order, "a full window is told before an alarm that does not fit"),
     ("refused-state", Fault::RefusedState, "a row that the library refuses changes a bit of its state"),
     ("refused-window", Fault::RefusedWindow, "a row that the library refuses changes a bit of its window"),
+    ("uncounted", Fault::Uncounted, "a kind of event is never counted"),
 ];
 
 /// What the traces show of the last accepted row.

@@ -1,9 +1,16 @@
-//! include/woldgrater.h in Rust: its records, its functions, and a safe type for each sequence and for a row file that is fed.
-//! A slice, an array or a reference of Rust keeps what the header asks of pointers.
+//! include/woldgrater.h in Rust: its records, its functions, and a safe type for each sequence, for the board and for a row file that is
+//! fed. A slice, an array or a reference of Rust keeps what the header asks of pointers.
 #![allow(dead_code)]
 
 pub const WINDOW: usize = 512;
 pub const LINE: usize = 256;
+pub const UNITS: usize = 6;
+/// How many rows wait for a unit of a board at most.
+pub const PLACES: usize = 4;
+
+/// What a row is turned away with at a board: there is no such unit; its line is full.
+pub const NO_UNIT: u64 = 12;
+pub const LINE_FULL: u64 = 13;
 
 // ---- records, written by tools/words
 
@@ -358,6 +365,26 @@ pub struct RooftopGiven {
 
 #[repr(C)]
 #[derive(Clone, Copy)]
+pub struct Board {
+    pub turn: usize,
+    pub counts: [usize; 6],
+    pub rows: [[RooftopRow; 4]; 6],
+    pub units: [RooftopState; 6],
+    pub times: [[f64; 512]; 6],
+    pub integrals: [[f64; 512]; 6],
+}
+
+#[repr(C)]
+#[derive(Clone, Copy)]
+pub struct BoardServed {
+    pub served: u64,
+    pub unit: usize,
+    pub status: u64,
+    pub commands: RooftopCommands,
+}
+
+#[repr(C)]
+#[derive(Clone, Copy)]
 pub struct LineGiven {
     pub status: u64,
     pub len: usize,
@@ -394,6 +421,9 @@ unsafe extern "C" {
     fn woldgrater_relief_line(row: ReliefRow, out: *mut u8, out_len: usize) -> LineGiven;
     fn woldgrater_rooftop_start(times: *mut f64, integrals: *mut f64, keeps_hour: u64) -> RooftopState;
     fn woldgrater_rooftop_row(times: *mut f64, integrals: *mut f64, state: RooftopState, row: RooftopRow) -> RooftopGiven;
+    fn woldgrater_board_start(board: *mut Board, keeps_hour: *const u64);
+    fn woldgrater_board_offer(board: *mut Board, unit: usize, row: RooftopRow) -> u64;
+    fn woldgrater_board_tick(board: *mut Board) -> BoardServed;
     fn woldgrater_play(rows: *const u8, rows_len: usize, out: *mut u8, out_len: usize) -> usize;
     fn woldgrater_start() -> State;
     fn woldgrater_feed(
@@ -556,6 +586,30 @@ impl Rooftop {
         let given = unsafe { woldgrater_rooftop_row(self.times.as_mut_ptr(), self.integrals.as_mut_ptr(), self.state, row) };
         self.state = given.state;
         accepted(given.status, given.commands)
+    }
+}
+
+/// A board of six joined units with waiting lines, which is changed where it stands.
+impl Board {
+    /// A started board: a word that is not 0 starts its unit so that stage 2 of freeze protection keeps to its hour.
+    pub fn start(keeps_hour: &[u64; UNITS]) -> Box<Self> {
+        let mut board = Box::new_uninit();
+        // The call writes every word of the board, which is tested.
+        unsafe {
+            woldgrater_board_start(board.as_mut_ptr(), keeps_hour.as_ptr());
+            board.assume_init()
+        }
+    }
+
+    /// Offers a row to a unit: it waits, or is turned away with the status, which changes nothing.
+    pub fn offer(&mut self, unit: usize, row: RooftopRow) -> Result<(), u64> {
+        accepted(unsafe { woldgrater_board_offer(self, unit, row) }, ())
+    }
+
+    /// Serves the next row in turn: its unit, and the commands of all three or the status of a refused row; nothing where no row waits.
+    pub fn tick(&mut self) -> Option<(usize, Result<RooftopCommands, u64>)> {
+        let given = unsafe { woldgrater_board_tick(self) };
+        (given.served != 0).then(|| (given.unit, accepted(given.status, given.commands)))
     }
 }
 

@@ -1,5 +1,5 @@
 /* The calls of each kind of rows, a row, a state, commands and signals, with what is left on the timers, being the 8-byte words that they
- * consist of. Joined rows have no signals and no line. For calls.c. */
+ * consist of. Joined rows have no signals and no line. For calls.c and units.c. */
 #include <stddef.h>
 #include <stdint.h>
 #include <string.h>

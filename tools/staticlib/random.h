@@ -1,4 +1,4 @@
-/* Random words and rows: the same seed gives the same ones on every run. For calls.c. */
+/* Random words and rows: the same seed gives the same ones on every run. For calls.c and units.c. */
 #include "kinds.h"
 
 #define NAN_PRINTED UINT64_C(9221120237041090560) /* every NaN of an answer */

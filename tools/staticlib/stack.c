@@ -27,6 +27,9 @@ static struct woldgrater_relief_state relief_state;
 static struct woldgrater_relief_row relief_row;
 static struct woldgrater_rooftop_state rooftop_state;
 static struct woldgrater_rooftop_row rooftop_row;
+static struct woldgrater_board board;
+static uint64_t keeps_hour[6];
+static size_t unit;
 static struct woldgrater_state file_state;
 static double times[WOLDGRATER_WINDOW], integrals[WOLDGRATER_WINDOW];
 static uint8_t line[WOLDGRATER_LINE], file[FILE_ROOM], out[WOLDGRATER_ROOM(FILE_ROOM)];
@@ -45,6 +48,15 @@ static size_t file_len;
     {                                                                              \
         result(*volatile called) parameters = real ? woldgrater_##name : nothing_##name; \
         given_##name = called arguments;                                           \
+    }
+
+/* The same of a call that gives nothing. */
+#define CALL_ALONE(name, parameters, arguments)                                    \
+    static void nothing_##name parameters {}                                       \
+    static void run_##name(int real)                                               \
+    {                                                                              \
+        void(*volatile called) parameters = real ? woldgrater_##name : nothing_##name; \
+        called arguments;                                                          \
     }
 
 #pragma GCC diagnostic push
@@ -70,6 +82,9 @@ CALL(rooftop_start, struct woldgrater_rooftop_state, (double *t, double *i, uint
 CALL(rooftop_row, struct woldgrater_rooftop_given,
      (double *t, double *i, struct woldgrater_rooftop_state state, struct woldgrater_rooftop_row row),
      (times, integrals, rooftop_state, rooftop_row))
+CALL_ALONE(board_start, (struct woldgrater_board *to, const uint64_t *keeps), (&board, keeps_hour))
+CALL(board_offer, uint64_t, (struct woldgrater_board *to, size_t of, struct woldgrater_rooftop_row row), (&board, unit, rooftop_row))
+CALL(board_tick, struct woldgrater_board_served, (struct woldgrater_board *to), (&board))
 CALL(freeze_line, struct woldgrater_line_given, (struct woldgrater_freeze_row row, uint8_t *to, size_t len),
      (freeze_row, out, WOLDGRATER_FREEZE_LINE))
 CALL(econ_line, struct woldgrater_line_given, (struct woldgrater_econ_row row, uint8_t *to, size_t len),
@@ -85,10 +100,10 @@ CALL(finish, size_t, (uint8_t *to, size_t len, const uint8_t *kept, struct woldg
      (out, sizeof out, line, file_state))
 #pragma GCC diagnostic pop
 
-enum limit { FREEZE, ECON, RELIEF, ROOFTOP, LINE, PLAY, FEED, START_FINISH, LIMITS };
+enum limit { FREEZE, ECON, RELIEF, ROOFTOP, BOARD, LINE, PLAY, FEED, START_FINISH, LIMITS };
 
 static const size_t limits[LIMITS] = {
-    WOLDGRATER_STACK_FREEZE, WOLDGRATER_STACK_ECON, WOLDGRATER_STACK_RELIEF, WOLDGRATER_STACK_ROOFTOP,
+    WOLDGRATER_STACK_FREEZE, WOLDGRATER_STACK_ECON, WOLDGRATER_STACK_RELIEF, WOLDGRATER_STACK_ROOFTOP,      WOLDGRATER_STACK_BOARD,
     WOLDGRATER_STACK_LINE,   WOLDGRATER_STACK_PLAY, WOLDGRATER_STACK_FEED,   WOLDGRATER_STACK_START_FINISH,
 };
 
@@ -102,6 +117,7 @@ static struct call {
     NAMED(freeze_start, FREEZE), NAMED(freeze_row, FREEZE), NAMED(freeze_signals, FREEZE), NAMED(econ_start, ECON),
     NAMED(econ_row, ECON),       NAMED(econ_signals, ECON), NAMED(relief_start, RELIEF),   NAMED(relief_row, RELIEF),
     NAMED(relief_signals, RELIEF), NAMED(relief_alarm, RELIEF), NAMED(rooftop_start, ROOFTOP), NAMED(rooftop_row, ROOFTOP),
+    NAMED(board_start, BOARD),   NAMED(board_offer, BOARD), NAMED(board_tick, BOARD),
     NAMED(freeze_line, LINE),    NAMED(econ_line, LINE),    NAMED(relief_line, LINE),      NAMED(play, PLAY),
     NAMED(start, START_FINISH),  NAMED(feed, FEED),         NAMED(finish, START_FINISH),
 };
@@ -201,7 +217,7 @@ static void try_relief(size_t n)
     relief_state = given_relief_row.state;
 }
 
-static void try_rooftop(size_t n)
+static void sample_rooftop(size_t n)
 {
     struct woldgrater_rooftop_row row = {
         .time = time_of(n),
@@ -223,11 +239,26 @@ static void try_rooftop(size_t n)
         .proof = { n % 2, 0, 1, 0 },
     };
     rooftop_row = row;
+}
+
+static void try_rooftop(size_t n)
+{
+    sample_rooftop(n);
     measure(run_rooftop_row);
     rooftop_state = given_rooftop_row.state;
 }
 
-/* Rows of the three sequences and joined ones, on states that calls gave and on forged ones. */
+/* Rows are offered for two or three units before one is served, so that some are turned away, and some for a unit that there is not. */
+static void try_board(size_t n)
+{
+    for (unit = n % 3; unit < 8; unit += 3) {
+        sample_rooftop(n);
+        measure(run_board_offer);
+    }
+    measure(run_board_tick);
+}
+
+/* Rows of the three sequences, joined ones and those of a board, on states that calls gave and on forged ones. */
 static void try_rows(void)
 {
     measure(run_freeze_start);
@@ -252,6 +283,13 @@ static void try_rows(void)
         if (n >= ROWS)
             forge(&rooftop_state, sizeof rooftop_state, n);
         try_rooftop(n);
+    }
+    measure(run_board_start);
+    measure(run_board_tick);
+    for (size_t n = 0; n < 2 * ROWS; n++) {
+        if (n >= ROWS)
+            forge(&board, sizeof board, n);
+        try_board(n);
     }
 }
 

@@ -1,5 +1,5 @@
 /* The timers among the signals of a row, worked again from their inputs at the rows before. For calls.c. */
-#include "random.h"
+#include "forged.h"
 
 /* A timer: the words of its input, of its answer and of what is left on it, and the seconds after which it passes. */
 #define TIMER(kind, input, answer, named, seconds)                                                                           \

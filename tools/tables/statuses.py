@@ -1,8 +1,8 @@
 """The statuses that begin an answer: the one table of them, in the order in which they are tried.
 
-A status is a line here: its number, the kinds of row files it is given in, and what it means. One that is given in
-none is for a row that is written. It is a whole number like any other. docs/ROW_FILES.md shows the table, and a test
-holds the page to it.
+A status is a line here: its number, the kinds of row files it is given in, and what it means. Two kinds are no row
+files: a row that is written, and one that is offered to a board. A status is a whole number like any other.
+docs/ROW_FILES.md shows the table, and a test holds the page to it.
 """
 
 import enum
@@ -25,7 +25,9 @@ class Status(enum.IntEnum):
     EARLIER = 3, KINDS, 'the time is below that of the last accepted row; an equal time is taken'
     ALARM_OUT_OF_RANGE = 11, ['relief'], 'an alarm is below -128 or above 127'
     WINDOW_FULL = 4, ['relief'], 'the window, with old points dropped, holds 512, and the last is of another time'
-    NO_ROOM = 10, [], 'what is left of the buffer is shorter than the line and its newline'
+    NO_ROOM = 10, ['writing'], 'what is left of the buffer is shorter than the line and its newline'
+    NO_UNIT = 12, ['board'], 'the row is offered to a unit above 5'
+    LINE_FULL = 13, ['board'], "the unit's waiting line already holds 4 rows"
     ACCEPTED = 0, KINDS, 'the row is accepted, and its commands follow'
 
 
@@ -36,4 +38,4 @@ def given_in(kind):
 
 def whose(status):
     """The kinds of a status in words."""
-    return 'all' if status.kinds == KINDS else ', '.join(status.kinds) or 'writing'
+    return 'all' if status.kinds == KINDS else ', '.join(status.kinds)

@@ -36,6 +36,15 @@ def array(kind):
     return (found[1], int(found[2])) if found else None
 
 
+def dimensions(kind):
+    """What an array, or an array of arrays, is made of, and its lengths, the outermost first: none of any other type."""
+    lengths = []
+    while found := re.fullmatch(r'\[(.+); (\d+)\]', kind):
+        kind = found[1]
+        lengths.append(int(found[2]))
+    return kind, lengths
+
+
 def unused(kind):
     """How many bytes an array of signed bytes leaves unused in its last word."""
     found = array(kind)

@@ -5,13 +5,13 @@ import re
 
 # the modules of each library that have functions to be exported
 LIBRARIES = {
-    'woldgrater': ['freeze', 'econ', 'relief', 'joined'],
+    'woldgrater': ['freeze', 'econ', 'relief', 'joined', 'units'],
     'woldgrater_service': ['freeze', 'econ', 'relief', 'play', 'chunks'],
 }
 # the modules whose exports have a crate of their own, and in the archive an object: in one object with others, the functions that both
 # call are called there too, with copies of whole states, and each row takes up to twice as long
-APART = {'joined': 'woldgrater_rooftop_c'}
-FUNCTION = re.compile(r"((?://.*\n)+)(?:#\[.*\]\n)*pub fn (woldgrater_\w+)(<'a>)?\(([^)]*)\) -> (\w+)\n((?:    .*\n)+)\{", re.M)
+APART = {'joined': 'woldgrater_rooftop_c', 'units': 'woldgrater_board_c'}
+FUNCTION = re.compile(r"((?://.*\n)+)(?:#\[.*\]\n)*pub fn (woldgrater_\w+)(<'a>)?\(([^)]*)\)((?: -> \w+)?)\n((?:    .*\n)+)\{", re.M)
 
 
 def imports(text, mark):
@@ -39,7 +39,7 @@ def exported(library, module, text):
     lines += sorted(f'use {homes.get(name, f"{library}::{module}").replace("crate::", library + "::")}::{name};' for name in types)
     for comment, name, life, parameters, result, clauses in functions:
         given = ', '.join(re.findall(r'(\w+):', parameters))
-        lines += ['', f'{comment}#[unsafe(no_mangle)]', f'pub extern "C" fn {name}{life}({parameters}) -> {result}',
+        lines += ['', f'{comment}#[unsafe(no_mangle)]', f'pub extern "C" fn {name}{life}({parameters}){result}',
                   f'{clauses}{{', f'    {library}::{module}::{name}({given})', '}']
     return '\n'.join(lines) + '\n'
 

@@ -16,12 +16,14 @@ SEQUENCES = [
     ('Relief fan group', ['ReliefHeld', 'ReliefRow', 'ReliefCommands', 'PressureControl', 'DamperEnable', 'StageUp', 'StageDown', 'ReliefSignals',
                           'ReliefLeft', 'ReliefGiven', 'ReliefShown', 'AlarmGiven']),
     ('The joined row', ['RooftopHeld', 'RooftopRow', 'RooftopCommands', 'RooftopGiven']),
+    ('The board', ['BoardWords', 'BoardServed']),
     ('The line of a row', ['LineGiven']),
     ('Row files', ['State', 'Fed']),
 ]
 C = {'f64': 'double', 'u64': 'uint64_t', 'usize': 'size_t', 'i64': 'int64_t', 'bool': 'uint64_t'}
 RUST = {'f64': 'f64', 'u64': 'u64', 'usize': 'usize', 'i64': 'i64', 'bool': 'u64'}
-NAMES = {'FreezeState': 'freeze_state', 'EconomizerState': 'econ_state', 'ReliefHeld': 'relief_state', 'RooftopHeld': 'rooftop_state', 'LineGiven': 'line_given', 'State': 'state'}
+NAMES = {'FreezeState': 'freeze_state', 'EconomizerState': 'econ_state', 'ReliefHeld': 'relief_state', 'RooftopHeld': 'rooftop_state', 'BoardWords': 'board',
+         'LineGiven': 'line_given', 'State': 'state'}
 # a field whose name is a word of C++
 C_FIELDS = {'xor': 'xor_y'}
 BEGIN, END = 'records, written by tools/words', 'end of the records'
@@ -32,7 +34,8 @@ def c_name(name):
 
 
 def rust_name(name):
-    return {'EconomizerState': 'EconState', 'ReliefHeld': 'ReliefState', 'RooftopHeld': 'RooftopState'}.get(name, name.replace('Economizer', 'Econ'))
+    names = {'EconomizerState': 'EconState', 'ReliefHeld': 'ReliefState', 'RooftopHeld': 'RooftopState', 'BoardWords': 'Board'}
+    return names.get(name, name.replace('Economizer', 'Econ'))
 
 
 class Records:
@@ -75,9 +78,9 @@ class Records:
         return '\n'.join(lines)
 
     def c_field(self, field, part):
-        found = declared.array(part)
-        one = self.meant(declared.element(part))
-        text = f'    {C.get(one) or "struct " + c_name(one)} {C_FIELDS.get(field, field)}' + (f'[{found[1]}];' if found else ';')
+        one, lengths = declared.dimensions(part)
+        one = self.meant(one)
+        text = f'    {C.get(one) or "struct " + c_name(one)} {C_FIELDS.get(field, field)}' + ''.join(f'[{length}]' for length in lengths) + ';'
         return f'{text:60}/* flag */' if one == 'bool' else text
 
     def rust(self):
@@ -92,10 +95,12 @@ class Records:
         return '\n'.join(lines)
 
     def rust_type(self, part):
-        found = declared.array(part)
-        one = self.meant(declared.element(part))
+        one, lengths = declared.dimensions(part)
+        one = self.meant(one)
         text = RUST.get(one) or rust_name(one)
-        return f'[{text}; {found[1]}]' if found else text
+        for length in reversed(lengths):
+            text = f'[{text}; {length}]'
+        return text
 
 
 def commented(text):

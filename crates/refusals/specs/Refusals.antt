@@ -1,10 +1,11 @@
 -- Refusals by their numbers: 1, 2 and 3 are those of all sequences, 4 and 11 the relief fan group's. 5 is that of a line that is badly formed, 6 of a first line
--- that names no kind of rows, 10 of a row that is written. The first one that fits a row is given, in the order 1, 2, 3, 11, 4.
+-- that names no kind of rows, 10 of a row that is written, 12 and 13 those of a row that is offered to a board. The first one that fits a row is given, in the order
+-- 1, 2, 3, 11, 4.
 use Rattle.std.specs.Prelude.{ℕ, Bool, not, cond, Float, Option, Result, Ok, Err}
 use Rattle.reals.specs.Sign.{is_sign_negative}
 use Rattle.reals.specs.Seen.{seen_above}
 use Rattle.refusals.specs.declared.Refusal.{Refusal}
-use Rattle.refusals.specs.declared.Refusal.TheVariants.{NotFinite, NegativeTime, FallingTime, AlarmOutOfRange, WindowFull, BadlyFormed, NoKind, NoRoom}
+use Rattle.refusals.specs.declared.Refusal.TheVariants.{NotFinite, NegativeTime, FallingTime, AlarmOutOfRange, WindowFull, BadlyFormed, NoKind, NoRoom, NoUnit, LineFull}
 
 -- a row is accepted, or refused
 abbrev pub Verdict : Type 0
@@ -20,6 +21,8 @@ refusal_number WindowFull = 4
 refusal_number BadlyFormed = 5
 refusal_number NoKind = 6
 refusal_number NoRoom = 10
+refusal_number NoUnit = 12
+refusal_number LineFull = 13
 
 -- 1 if a number is not finite; 2 if the time's sign bit is set, so −0.0 too; 3 if the time falls
 abbrev pub judge_by : Bool → Float → Bool → Verdict

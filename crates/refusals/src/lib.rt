@@ -19,6 +19,8 @@ pub enum Refusal {
     BadlyFormed,
     NoKind,
     NoRoom,
+    NoUnit,
+    LineFull,
 }
 
 // A row is accepted, or refused.
@@ -39,6 +41,8 @@ impl Refusal {
             Refusal::BadlyFormed => 5,
             Refusal::NoKind => 6,
             Refusal::NoRoom => 10,
+            Refusal::NoUnit => 12,
+            Refusal::LineFull => 13,
         }
     }
 }

@@ -3,3 +3,5 @@ pub mod AnswerCalls
 pub mod WindowCalls
 pub mod Calls
 pub mod RooftopCalls
+pub mod BoardCalls
+pub mod ByBoardCalls

@@ -5,3 +5,5 @@ pub mod Freeze
 pub mod Economizer
 pub mod Relief
 pub mod Rooftop
+pub mod Units
+pub mod BoardCalls

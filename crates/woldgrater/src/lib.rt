@@ -6,3 +6,4 @@ pub mod econ;
 pub mod freeze;
 pub mod joined;
 pub mod relief;
+pub mod units;
