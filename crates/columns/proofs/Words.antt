@@ -4,14 +4,14 @@ use mathlib.Core.Path.{◌≡◌, refl, sym, ap, ◌∙◌}
 use mathlib.Core.List.{List}
 use mathlib.Core.Bool.{Bool, true, false, cond, not, ◌&&◌, true≢false}
 use native.Mathlib.Omega.{arith}
-use lib.Dec.{T, ltb, leb}
+use lib.Dec.{T, eqb, ltb, leb}
 use lib.ListN.{length}
 use lib.IntN.{ℤ, pos, negsuc}
 use mir.ValLaws.{to_z_pos, to_z-neg}
 use mir.Syntax.{w64}
 use lib.Ieee.{Float, nan, inf, fin, binary64, to_bits, of_bits, of_fields, odd, nan_bits, is_nan}
 use lib.Ieee.Bits.{nan_bits_is, nan_bits_above}
-use borrow.Author.Tests.{ltb-true, ltb-false, leb-true, leb-false, lt-ltb, le-ltb, le-leb, lt-leb}
+use borrow.Author.Tests.{eqb-true, ltb-true, ltb-false, leb-true, leb-false, lt-ltb, le-ltb, le-leb, lt-leb}
 use Rattle.columns.specs.Column.{column}
 use Rattle.std.specs.Prelude.{Some, None}
 use Rattle.std.specs.Option.{is_some, unwrap_or}
@@ -20,9 +20,29 @@ use Rattle.std.specs.Int.{cast_signed, cast_unsigned}
 use Rattle.columns.specs.Word.{half, last_word, word_signed, signed_word}
 use Rattle.columns.specs.declared.forms.Form.{Form}
 use Rattle.columns.specs.declared.forms.Form.TheVariants as variant
-use Rattle.columns.specs.Forms.{is_yes_no, is_signed, is_word, is_negative, magnitude, word_column, word_in, read_word, largest}
+use Rattle.columns.specs.Forms.{form_of, is_yes_no, is_signed, is_word, is_negative, magnitude, word_column, word_in, read_word, largest}
 use Rattle.columns.proofs.Scanning.{by_test}
 use Rattle.columns.proofs.Inverse.{both, same_refl, same_eq, column_decimal, column_minus, length_column, scan_column, scan_was}
+
+-- ---- the form that a byte names
+
+-- what is asked of a byte's form is what is asked of the byte
+pub byte_form : (byte : ℕ) → (is_yes_no (form_of byte) ≡ eqb byte 98) × (is_signed (form_of byte) ≡ eqb byte 105)
+byte_form byte = by (eqb byte 102) (eqb byte 98) (eqb byte 105) refl refl refl
+  where
+    by : (f b i : Bool) → eqb byte 102 ≡ f → eqb byte 98 ≡ b → eqb byte 105 ≡ i
+        → (is_yes_no (cond f variant.Float (cond b variant.YesNo (cond i variant.Signed variant.Unsigned))) ≡ b)
+        × (is_signed (cond f variant.Float (cond b variant.YesNo (cond i variant.Signed variant.Unsigned))) ≡ i)
+    by true true i x y z = absurd (omega (arith, eqb-true byte 102 x, eqb-true byte 98 y))
+    by true false true x y z = absurd (omega (arith, eqb-true byte 102 x, eqb-true byte 105 z))
+    by true false false x y z = (refl, refl)
+    by false true true x y z = absurd (omega (arith, eqb-true byte 98 y, eqb-true byte 105 z))
+    by false true false x y z = (refl, refl)
+    by false false i x y z = other i
+      where
+        other : (i : Bool) → (is_yes_no (cond i variant.Signed variant.Unsigned) ≡ false) × (is_signed (cond i variant.Signed variant.Unsigned) ≡ i)
+        other true = (refl, refl)
+        other false = (refl, refl)
 
 -- ---- a word and its column
 

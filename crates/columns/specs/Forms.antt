@@ -31,6 +31,10 @@ is_signed YesNo = false
 is_signed Signed = true
 is_signed Unsigned = false
 
+-- the form that a byte names: 'f', 'b' and 'i' those above, any other byte an unsigned number
+abbrev pub form_of : ℕ → Form
+form_of byte = cond (eqb byte 102) Float (cond (eqb byte 98) YesNo (cond (eqb byte 105) Signed Unsigned))
+
 -- ---- one column
 
 -- a word of a form: 64 bits, and for a yes or no 1 or 0

@@ -3,7 +3,7 @@
 ghost use Rattle.std.specs.Prelude.{◌≡◌, true, false, ◌+◌, ◌*◌, ◌≤◌, length};
 ghost use Rattle.columns.specs.Column.{column, Wrote};
 ghost use Rattle.columns.specs.Line.{column_of};
-ghost use Rattle.columns.specs.Forms.{is_signed, read_word, largest, word_column, line_of, read_line};
+ghost use Rattle.columns.specs.Forms.{form_of, is_signed, read_word, largest, word_column, line_of, read_line};
 
 use crate::column::write_column;
 use crate::scan::scan;
@@ -15,6 +15,20 @@ pub enum Form {
     YesNo,
     Signed,
     Unsigned,
+}
+
+// The form that a byte names, whatever byte it is: a table of columns may come as bytes.
+impl From<u8> for Form {
+    ghost from_gives = { λ byte form. form ≡ form_of byte };
+
+    fn from(byte: u8) -> Self {
+        match byte {
+            b'f' => Form::Float,
+            b'b' => Form::YesNo,
+            b'i' => Form::Signed,
+            _ => Form::Unsigned,
+        }
+    }
 }
 
 impl Form {

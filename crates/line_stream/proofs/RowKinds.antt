@@ -2,22 +2,29 @@
 -- read of it. Assumes nothing.
 use Prim.Native.Nat.{ℕ, ◌+◌, ◌*◌, ◌≤◌}
 use mathlib.Core.Path.{◌≡◌, refl, sym, ap, subst, ◌∙◌}
-use mathlib.Core.List.{List}
+use mathlib.Core.List.{List, [], ◌∷◌}
 use mathlib.Core.Bool.{Bool, true, false, cond}
 use native.Mathlib.Omega.{arith}
 use lib.ListN.{length, take, length-take}
 use lib.Seq.{take_all}
 use Rattle.std.specs.Prelude.{Option, Some, None, Result, Ok, Err}
+use Rattle.columns.specs.declared.forms.Form.{Form}
 use Rattle.columns.specs.Column.{Wrote}
 use Rattle.columns.specs.Forms.{well_formed, words_of, read_line}
 use Rattle.columns.specs.Line.{status_line, words_line}
 use Rattle.columns.proofs.Writing.{wrote_text}
-use Rattle.columns.proofs.Tables.{other_length, well_length}
-use Rattle.columns.proofs.Lines.{length_status, length_words_line}
+use Rattle.columns.proofs.Tables.{other_length, read_length, well_length}
+use Rattle.columns.proofs.Lines.{length_status, length_words_line, status_words_line}
 use Rattle.refusals.specs.declared.Refusal.{Refusal}
-use Rattle.line_stream.specs.Lines.{Answered}
+use Rattle.line_stream.specs.Lines.{Answer, Answered}
 use Rattle.line_stream.specs.RowKind.{RowKind, RowLine, Row, Malformed, answer_words, row_line, read_answered, line_answered, Stepped, Sized}
 use Rattle.line_stream.proofs.Cutting.{at_most_or_above}
+
+-- the answer to a line by the words that are written of it, with a form and room for each
+pub record SaidBy {Q : Type 0} (a : Answer Q) (forms : List Form) (line : List ℕ) (next : Q) (words : List ℕ) : Type 0 where
+  pub columns : length words ≤ length forms
+  pub room : 21 * length words + 1 ≤ 22 * (length line + 1)
+  pub answered : record { next = next; said = words_line forms words } ≡ a
 
 module _ {S R C : Type 0} (kind : RowKind S R C) where
   module _ (sized : Sized kind) where
@@ -37,7 +44,7 @@ module _ {S R C : Type 0} (kind : RowKind S R C) where
         (other_malformed (take n p) (λ x. omega (arith, sized.columns)) ∙ sym (other_malformed p (λ x. omega (arith, sized.columns)))))
 
     -- an answer has a form for each of its words
-    words_fit : (a : Result C Refusal) → length (answer_words kind a) ≤ length kind.answer_forms
+    pub words_fit : (a : Result C Refusal) → length (answer_words kind a) ≤ length kind.answer_forms
     words_fit (Ok commands) = sized.words commands
     words_fit (Err refusal) = omega (arith, ap length sized.status)
 
@@ -85,3 +92,31 @@ module _ {S R C : Type 0} (kind : RowKind S R C) where
     row_answered words e next answer s text n t w =
         subst (λ (x : RowLine R). Answered (read_answered kind state x) out at next after place) (ap row_in e ∙ sym (row_is line))
         (record { state = s.moved; text = wrote_text _ _ _ (t ∙ ap (λ (x : Result C Refusal). words_line kind.answer_forms (answer_words kind x)) s.said) w })
+
+  -- ---- the same by the words of the answer, of which each has its form, and all have room
+  module _ (sized : Sized kind) (state : S) (line : List ℕ) where
+    -- a row
+    pub row_said : (words : List ℕ) → Some words ≡ read_line kind.row_forms line → (next : S) (answer : Result C Refusal) → Stepped kind state (kind.row_of words) next answer
+        → SaidBy (line_answered kind state line) kind.answer_forms line next (answer_words kind answer)
+    unfolding line_answered read_answered
+    row_said words e next answer s = record {
+      columns = words_fit sized answer;
+      room = omega (arith, words_fit sized answer, sized.room, read_length kind.row_forms line words e);
+      answered =
+          subst (λ (x : RowLine R). record { next = next; said = words_line kind.answer_forms (answer_words kind answer) } ≡ read_answered kind state x)
+          (ap row_in e ∙ sym (row_is line))
+          (λ i. record { next = s.moved i; said = words_line kind.answer_forms (answer_words kind (s.said i)) });
+    }
+
+    -- a badly formed line
+    pub bad_said : None ≡ read_line kind.row_forms line → SaidBy (line_answered kind state line) kind.answer_forms line state (5 ∷ [])
+    unfolding line_answered read_answered
+    bad_said e = record {
+      columns = omega (arith, ap length sized.status);
+      room = omega arith;
+      answered =
+          subst (λ (x : RowLine R). record { next = state; said = words_line kind.answer_forms (5 ∷ []) } ≡ read_answered kind state x)
+          (ap row_in e ∙ sym (row_is line))
+          (ap (λ (x : List ℕ). record { next = state; said = x })
+          (ap (λ (x : List Form). words_line x (5 ∷ [])) sized.status ∙ status_words_line sized.commands 5));
+    }

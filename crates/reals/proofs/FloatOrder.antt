@@ -6,9 +6,9 @@ use mathlib.Core.Path.{◌≡◌, refl, sym}
 use mathlib.Core.Logic.{inl, inr}
 use mathlib.Core.Bool.{Bool, true, false, not, ◌&&◌, ◌||◌, true≢false}
 use lib.Dec.{T, ltb, eqb, ltb→lt, lt→ltb, eqb→eq, eqb_refl, not_T}
-use lib.Ieee.{Float, nan, inf, fin, up, down, below, level, lt, eq, le, is_nan}
+use lib.Ieee.{Float, nan, inf, fin, up, down, below, level, lt, eq, le, ne, is_nan}
 use lib.Ieee.Fits.{down_pos, and_i, and_l, and_r, eq→eqb}
-use Rattle.reals.proofs.Truth.{is_true, or_l, or_r, either, same, opposite}
+use Rattle.reals.proofs.Truth.{is_true, or_l, or_r, either, same, opposite, table1}
 
 -- ---- ±a < ±b and ±a ≤ ±b, as facts of natural numbers
 abbrev Below : Bool → ℕ → Bool → ℕ → Type 0
@@ -248,6 +248,11 @@ self_equal (inf true) = refl
 self_equal (inf false) = refl
 self_equal (fin true m e) = rw (is_true (eqb (m * up e * down e) (m * up e * down e)) (eqb_refl (m * up e * down e))) refl
 self_equal (fin false m e) = rw (is_true (eqb (m * up e * down e) (m * up e * down e)) (eqb_refl (m * up e * down e))) refl
+
+-- the test `x != x`
+pub differs : (x : Float) → ne x x ≡ is_nan x
+unfolding ne
+differs x = rw (self_equal x) (table1 (λ b. not (not b)) (λ b. b) tt (is_nan x))
 
 pub le_refl : (x : Float) → is_nan x ≡ false → T (le x x)
 unfolding le

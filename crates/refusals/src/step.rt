@@ -20,17 +20,18 @@ pub fn step_by<C, S: Copy, F: FnOnce() -> (C, S)>(
     requires { F.pre accepted }
     ensures { Stepped (F.post accepted) verdict state result }
 {
-    match verdict {
+    // The old state stands until the row is accepted. A copy of its own in each case would make every row copy the unused bytes between the fields.
+    let mut next = state;
+    let answer = match verdict {
         Ok(()) => {
-            let (commands, next) = accepted();
-            Step {
-                answer: Ok(commands),
-                state: next,
-            }
+            let (commands, after) = accepted();
+            next = after;
+            Ok(commands)
         }
-        Err(refusal) => Step {
-            answer: Err(refusal),
-            state,
-        },
+        Err(refusal) => Err(refusal),
+    };
+    Step {
+        answer,
+        state: next,
     }
 }

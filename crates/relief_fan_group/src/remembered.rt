@@ -9,5 +9,7 @@ use crate::types::ReliefBlocks;
 pub fn relief_alarm(blocks: ReliefBlocks, fan: usize) -> Option<i64>
     ensures { result ≡ relief_alarm blocks fan }
 {
-    blocks.alarms.get(fan).map(|&byte| i64::from(byte))
+    // A copy of the four bytes: what is lent of `blocks` itself keeps all of it in memory, and a call from C then writes out every block.
+    let alarms = blocks.alarms;
+    alarms.get(fan).map(|&byte| i64::from(byte))
 }

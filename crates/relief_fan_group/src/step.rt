@@ -16,7 +16,7 @@ use logical::present_timer::PresentTimerState;
 use logical::true_delay_on_init::TrueDelayOnInitState;
 use moving_average::state::MovingAverageState;
 use reals::threshold::ThresholdState;
-use refusals::step::step_by;
+use refusals::step::Step;
 use relief_fans::alarms::alarm_bytes;
 use relief_fans::blocks::{delay_updates, threshold_updates};
 
@@ -111,13 +111,22 @@ pub fn relief_row(state: ReliefState, row: ReliefRow) -> ReliefStep
     ensures { result ≡ relief_row state row }
 {
     let full = state.window.is_full(row.time);
-    step_by(relief_verdict(state.blocks, row, full), state, || {
-        let average = state.window.output(row.time, row.pressure);
-        let signals = relief_signals(state.blocks, row, average);
-        let next = ReliefState {
-            window: state.window.update(row.time, row.pressure),
-            blocks: relief_next(state.blocks, row, signals),
-        };
-        (relief_commands(row, signals), next)
-    })
+    // No `step_by`: the state holds the arrays of the window, 8 KB, and a closure that hands on the next one makes every row copy them more than twice as often.
+    match relief_verdict(state.blocks, row, full) {
+        Ok(()) => {
+            let average = state.window.output(row.time, row.pressure);
+            let signals = relief_signals(state.blocks, row, average);
+            Step {
+                answer: Ok(relief_commands(row, signals)),
+                state: ReliefState {
+                    window: state.window.update(row.time, row.pressure),
+                    blocks: relief_next(state.blocks, row, signals),
+                },
+            }
+        }
+        Err(refusal) => Step {
+            answer: Err(refusal),
+            state,
+        },
+    }
 }

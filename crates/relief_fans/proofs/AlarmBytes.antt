@@ -11,7 +11,7 @@ use Rattle.std.specs.Result.{OkIff, is_ok, result_unwrap_or}
 use Rattle.std.specs.declared.result.Result.{Result}
 use Rattle.std.specs.declared.result.Result.TheVariants.{Ok, Err}
 use borrow.Author.Tests.{le-ltb}
-use mir.Syntax.{w8}
+use mir.Syntax.{w8, w64}
 use mir.Val.{SFits}
 use Rattle.reals.specs.Four.{flag, each4}
 use Rattle.reals.proofs.Four.{at_each}
@@ -21,10 +21,14 @@ use Rattle.relief_fans.specs.Flags.{all_of}
 use Rattle.relief_fans.specs.Alarms.{fits_byte, fits_at, alarms_fit, alarm_byte, byte_at, alarm_bytes}
 
 -- a number from −128 to 127 fits eight bits with a sign
-in_range : (alarm : ℤ) → T (fits_byte alarm) → SFits w8 alarm
+pub in_range : (alarm : ℤ) → T (fits_byte alarm) → SFits w8 alarm
 unfolding fits_byte
 in_range (pos n) f = let h = nltb→le 127 n f in record { sfits = omega (arith, h) }
 in_range (negsuc k) f = let h = nltb→le 127 k (and_l (not (ltb 127 k)) true f) in record { sfits = omega (arith, h) }
+
+-- and 64 bits
+pub wider : {z : ℤ} → SFits w8 z → SFits w64 z
+wider f = let h = f.sfits in record { sfits = omega (arith, h) }
 
 -- and no other does
 fits : (alarm : ℤ) → SFits w8 alarm → T (fits_byte alarm)
